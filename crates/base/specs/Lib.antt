@@ -1,0 +1,4 @@
+-- What every definition uses.
+pub mod Tests
+pub mod Loops
+pub mod Bits

@@ -1,0 +1,184 @@
+-- Loops over the ids of a table, and their laws. A step is a function of an id and of what the loop changes.
+use mathlib.Core.Bool.{Bool, true, false, _&&_, _||_, false≢true, and-false, or-true}
+use mathlib.Core.Path.{_≡_, refl, ap, ap₂, sym, _∙_}
+use mathlib.Core.Logic.{⊎-elim}
+use Prim.Native.Nat.{ℕ, zero, suc, _+_, _-_, _<_, _≤_}
+use native.Mathlib.Nat.{sub-zero, eq-or-lt-of-le}
+use native.Mathlib.Numerals.{add-one, sub-one}
+use native.Mathlib.Omega.{arith}
+use borrow.Author.Tests.{leb-true, leb-false}
+use Rattle.base.specs.Tests.{if_then_else_, _≤?_, by-test, both-pass, pass-both}
+
+-- ---- definitions
+
+module _ {A : Type 0} where
+  -- the step at 0, 1, .. n - 1, in this order
+  unfoldable pub ascending : (ℕ → A → A) → ℕ → A → A
+  ascending step zero x = x
+  ascending step (suc k) x = step k (ascending step k x)
+
+  -- the step at n - 1, .. 1, 0, in this order
+  unfoldable pub descending : (ℕ → A → A) → ℕ → A → A
+  descending step zero x = x
+  descending step (suc k) x = descending step k (step k x)
+
+-- some id below n passes the test
+unfoldable pub some : (ℕ → Bool) → ℕ → Bool
+some test zero = false
+some test (suc k) = some test k || test k
+
+-- every id below n passes the test
+unfoldable pub every : (ℕ → Bool) → ℕ → Bool
+every test zero = true
+every test (suc k) = every test k && test k
+
+-- the first of i, i + 1, .. that passes the test, among so many; the number past them where none does
+unfoldable pub first : (ℕ → Bool) → ℕ → ℕ → ℕ
+first test zero i = i
+first test (suc k) i = if test i then i else first test k (i + 1)
+
+-- ---- laws of `ascending`: before the first turn, one turn, the end, and an end before idle turns
+
+module _ {A : Type 0} (step : ℕ → A → A) where
+  pub ascending-none : (x : A) → x ≡ ascending step 0 x
+  unfolding ascending
+  ascending-none x = refl
+
+  pub ascending-more : (i : ℕ) (x : A) {y z : A} → y ≡ ascending step i x → z ≡ step i y → z ≡ ascending step (i + 1) x
+  unfolding ascending
+  ascending-more i x p q = rw add-one (q ∙ ap (step i) p)
+
+  pub ascending-done : (i n : ℕ) (x : A) {y : A} → i ≡ n → y ≡ ascending step i x → y ≡ ascending step n x
+  ascending-done i n x e p = rw (← e) p
+
+  pub ascending-idle : (i n : ℕ) (x : A) {y : A} → y ≡ ascending step i x → ((k : ℕ) → i ≤ k → step k y ≡ y) → i ≤ n → y ≡ ascending step n x
+  unfolding ascending
+  ascending-idle i zero x p idle h = ascending-done i zero x (omega arith) p
+  ascending-idle i (suc n) x p idle h =
+      ⊎-elim (λ e. ascending-done i (suc n) x e p)
+      (λ l. sym (idle n (omega arith)) ∙ ap (step n) (ascending-idle i n x p idle (omega arith)))
+      (eq-or-lt-of-le h)
+
+  -- ---- laws of `descending`
+
+  pub descending-none : (x : A) → x ≡ descending step 0 x
+  unfolding descending
+  descending-none x = refl
+
+  pub descending-more : (k : ℕ) {x y z : A} → 0 < k → descending step k x ≡ z → y ≡ step (k - 1) x → descending step (k - 1) y ≡ z
+  unfolding descending
+  descending-more (suc k) h p q = rw sub-one (ap (descending step k) (simp sub-one at q) ∙ p)
+
+  pub descending-done : (k : ℕ) (x : A) {z : A} → k ≡ 0 → descending step k x ≡ z → x ≡ z
+  unfolding descending
+  descending-done k x e p = rw e at p
+
+-- ---- laws of `first`: a search from i up to n begins, passes i, stops at i, and ends; what it finds passes the test
+
+pub first-none : (test : ℕ → Bool) (n : ℕ) → first test n 0 ≡ first test (n - 0) 0
+first-none test n = rw sub-zero
+
+module _ (test : ℕ → Bool) (n i : ℕ) {x : ℕ} (h : x ≡ first test (n - i) i) where
+  pub first-skip : i < n → test i ≡ false → x ≡ first test (n - (i + 1)) (i + 1)
+  unfolding first if_then_else_
+  first-skip l e =
+      let s : n - i ≡ suc (n - (i + 1)) = omega arith in
+      h ∙ rw (s, e)
+
+  pub first-hit : i < n → test i ≡ true → i ≡ x
+  unfolding first if_then_else_
+  first-hit l e =
+      let s : n - i ≡ suc (n - (i + 1)) = omega arith in
+      sym (h ∙ rw (s, e))
+
+  pub first-end : n ≤ i → i ≡ x
+  unfolding first
+  first-end l =
+      let s : n - i ≡ 0 = omega arith in
+      sym (h ∙ rw s)
+
+pub first-found : (test : ℕ → Bool) (k i : ℕ) → first test k i < i + k → test (first test k i) ≡ true
+unfolding first if_then_else_
+first-found test zero i h = absurd (omega arith)
+first-found test (suc k) i h =
+    by-test (test i) (λ e. rw (e, e)) (λ e. rw e (first-found test k (i + 1) (omega (arith, rw e at h))))
+
+-- ---- laws of `every` and `some`
+
+pub every-each : (test : ℕ → Bool) (n : ℕ) → every test n ≡ true → (k : ℕ) → k < n → test k ≡ true
+unfolding every
+every-each test zero e k h = absurd (omega arith)
+every-each test (suc n) e k h =
+    let p = both-pass (every test n) (test n) e in
+    let l : k ≤ n = omega arith in
+    ⊎-elim (λ q. rw q (p .1)) (λ (l : k < n). every-each test n (p .0) k l) (eq-or-lt-of-le l)
+
+pub each-every : (test : ℕ → Bool) (n : ℕ) → ((k : ℕ) → k < n → test k ≡ true) → every test n ≡ true
+unfolding every
+each-every test zero h = refl
+each-every test (suc n) h = pass-both _ _ (each-every test n (λ k l. h k (omega arith))) (h n (omega arith))
+
+-- `every` in a loop that joins the tests: before the first turn, one turn, the end; and where one test fails
+module _ (test : ℕ → Bool) where
+  pub every-none : true ≡ every test 0
+  unfolding every
+  every-none = refl
+
+  pub every-more : (i : ℕ) {b t : Bool} → b ≡ every test i → (b ≡ true → t ≡ test i) → (b && t) ≡ every test (i + 1)
+  unfolding every
+  every-more i {b} p q = rw (add-one, ← p) (by-test b (λ e. rw (q e)) (λ e. rw e))
+
+  pub every-done : (i n : ℕ) {b : Bool} → i ≡ n → b ≡ every test i → b ≡ every test n
+  every-done i n e p = rw (← e) p
+
+  pub every-fails : (k n : ℕ) → k < n → test k ≡ false → false ≡ every test n
+  unfolding every
+  every-fails k zero h e = absurd (omega arith)
+  every-fails k (suc n) h e =
+      let l : k ≤ n = omega arith in
+      ⊎-elim (λ q. rw (← q, e) (sym (and-false (every test k)))) (λ (l : k < n). rw (← every-fails k n l e)) (eq-or-lt-of-le l)
+
+  -- where every id below n passes, n is at most one that fails
+  pub every-within : (k n : ℕ) → test k ≡ false → every test n ≡ true → n ≤ k
+  every-within k n e p = by-test (n ≤? k) (leb-true n k) (λ q. absurd (false≢true (every-fails k n (leb-false n k q) e ∙ p)))
+
+pub some-one : (test : ℕ → Bool) (n : ℕ) → some test n ≡ true → (k : ℕ) × (k < n) × (test k ≡ true)
+unfolding some
+some-one test zero e = absurd (false≢true e)
+some-one test (suc n) e =
+    by-test (some test n)
+    (λ q. let f = some-one test n q in (f .0, omega arith, f .2))
+    (λ q. (n, omega arith, rw q at e))
+
+pub one-some : (test : ℕ → Bool) (n k : ℕ) → k < n → test k ≡ true → some test n ≡ true
+unfolding some
+one-some test zero k h e = absurd (omega arith)
+one-some test (suc n) k h e =
+    let l : k ≤ n = omega arith in
+    ⊎-elim (λ q. rw (← q, e) (or-true (some test k))) (λ (l : k < n). rw (one-some test n k l e)) (eq-or-lt-of-le l)
+
+pub same-some : (test other : ℕ → Bool) (n : ℕ) → ((k : ℕ) → k < n → test k ≡ other k) → some test n ≡ some other n
+unfolding some
+same-some test other zero h = refl
+same-some test other (suc n) h = ap₂ _||_ (same-some test other n (λ k l. h k (omega arith))) (h n (omega arith))
+
+pub some-none : (test : ℕ → Bool) → some test 0 ≡ false
+unfolding some
+some-none test = refl
+
+pub some-more : (test : ℕ → Bool) (n : ℕ) → some test n ≡ false → test n ≡ false → some test (n + 1) ≡ false
+unfolding some
+some-more test n p q = rw (add-one, p) q
+
+-- ---- what holds after each turn of a loop
+
+module _ {A : Type 0} (P : ℕ → A → Type 0) {step : ℕ → A → A} where
+  pub ascending-turns : (n : ℕ) (x : A) → P 0 x → ((k : ℕ) (y : A) → k < n → P k y → P (suc k) (step k y)) → P n (ascending step n x)
+  unfolding ascending
+  ascending-turns zero x p turn = p
+  ascending-turns (suc n) x p turn = turn n (ascending step n x) (omega arith) (ascending-turns n x p (λ k y h. turn k y (omega arith)))
+
+  pub descending-turns : (n : ℕ) (x : A) → P n x → ((k : ℕ) (y : A) → k < n → P (suc k) y → P k (step k y)) → P 0 (descending step n x)
+  unfolding descending
+  descending-turns zero x p turn = p
+  descending-turns (suc n) x p turn = descending-turns n (step n x) (turn n x (omega arith) p) (λ k y h. turn k y (omega arith))

@@ -1,0 +1,15 @@
+pub mod SoundTables
+pub mod Keep
+pub mod Columns
+pub mod Shape
+pub mod Tally
+pub mod Firings
+pub mod Effects
+pub mod Times
+pub mod Settling
+pub mod Whole
+pub mod Calls
+pub mod Entries
+pub mod Loading
+pub mod FirstSession
+pub mod Demand

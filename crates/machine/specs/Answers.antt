@@ -1,0 +1,53 @@
+-- "Where an answer is an enum, a definition gives, for each of its cases, this paper's number and values."
+-- Every operation's promise is stated through these.
+use Prim.Native.Nat.{ℕ}
+use mathlib.Core.List.{List, [], _∷_}
+use lib.IntN.{ℤ, pos}
+use Rattle.machine.specs.declared.Refusal.{Refusal}
+use Rattle.machine.specs.declared.Refusal.the-variants.{CutRecord, UnknownKind, MisplacedHead, TableFull, FieldOutOfRange, UnknownId, Conflict, NoNode, BadArgument, NoSuchId, LimitReached, LogFull, BrokenSession}
+use Rattle.machine.specs.declared.LoadAnswer
+use Rattle.machine.specs.declared.LoadAnswer.{LoadAnswer}
+use Rattle.machine.specs.declared.CallAnswer
+use Rattle.machine.specs.declared.CallAnswer.{CallAnswer}
+use Rattle.machine.specs.declared.ReadAnswer
+use Rattle.machine.specs.declared.ReadAnswer.{ReadAnswer}
+
+-- an answer as 01 gives it: the number of its refusal, 0 if it is accepted, and the values of an accepted one
+pub record Answer : Type 0 where
+  pub refusal : ℕ
+  pub values : List ℤ
+
+abbrev pub accepted : List ℤ → Answer
+accepted values = record { refusal = 0; values = values }
+
+abbrev pub refused : ℕ → Answer
+refused number = record { refusal = number; values = [] }
+
+abbrev pub numberOf : Refusal → ℕ
+numberOf CutRecord = 1
+numberOf UnknownKind = 2
+numberOf MisplacedHead = 3
+numberOf TableFull = 4
+numberOf FieldOutOfRange = 5
+numberOf UnknownId = 6
+numberOf Conflict = 7
+numberOf NoNode = 8
+numberOf BadArgument = 9
+numberOf NoSuchId = 10
+numberOf LimitReached = 11
+numberOf LogFull = 12
+numberOf BrokenSession = 13
+
+abbrev pub loadAnswer : LoadAnswer → Answer
+loadAnswer LoadAnswer.Accepted = accepted []
+loadAnswer (LoadAnswer.Refused r) = refused (numberOf r)
+
+-- "the count comes back in the accepted answer"
+abbrev pub callAnswer : CallAnswer → Answer
+callAnswer (CallAnswer.Accepted firings) = accepted (pos firings ∷ [])
+callAnswer (CallAnswer.Refused r) = refused (numberOf r)
+
+-- "It returns state, value or 0, count"
+abbrev pub readAnswer : ReadAnswer → Answer
+readAnswer (ReadAnswer.Found r) = accepted (pos (r .state) ∷ r .value ∷ pos (r .count) ∷ [])
+readAnswer (ReadAnswer.Refused r) = refused (numberOf r)

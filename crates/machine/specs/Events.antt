@@ -1,0 +1,284 @@
+-- "Events and commands". A step changes the run of a call: the states, the log, the firings, and whether the limit was met.
+use Prim.Native.Nat.{ℕ, zero, suc, _+_, _-_, _%_}
+use mathlib.Core.Bool.{Bool, true, false, not, _&&_, _||_}
+use mathlib.Core.List.{List, [], _∷_}
+use lib.IntN.{ℤ}
+use lib.ListN.{getD, set}
+use Rattle.base.specs.Tests.{if_then_else_, _=?_, _<?_, _≤?_}
+use Rattle.base.specs.Loops.{ascending, descending, some, first}
+use Rattle.machine.specs.Terms.{context, media, sleeping, occurring, paused, toStart, toAbort, toResume, toSet, noTransition, starts, stops, aborts, pauses, resumes, ofNode, ofAnchor, ofProperty, noId}
+use Rattle.machine.specs.Tables.{typeOf, parentOf, isMedia, anchorAt, bindAt, portAt}
+use Rattle.machine.specs.Records.{isDefault}
+use Rattle.machine.specs.Deciding.{ruleHolds}
+use Rattle.machine.specs.Log.{Log, line, logged}
+use Rattle.machine.specs.declared.Nodes.{Nodes}
+use Rattle.machine.specs.declared.Document.{Document}
+use Rattle.machine.specs.declared.State.{State}
+
+pub record Run : Type 0 where
+  pub state : State
+  pub log : Log
+  pub firings : ℕ
+  pub limited : Bool
+
+abbrev pub nodeState : State → ℕ → ℕ
+nodeState s n = getD (s .«node_state») n 0
+
+abbrev pub nodeClock : State → ℕ → ℕ
+nodeClock s n = getD (s .«node_clock») n 0
+
+abbrev pub nodeCount : State → ℕ → ℕ
+nodeCount s n = getD (s .«node_count») n 0
+
+abbrev pub anchorState : State → ℕ → ℕ
+anchorState s a = getD (s .«anchor_state») a 0
+
+abbrev pub anchorCount : State → ℕ → ℕ
+anchorCount s a = getD (s .«anchor_count») a 0
+
+abbrev pub propertyCount : State → ℕ → ℕ
+propertyCount s p = getD (s .«property_count») p 0
+
+-- 01's term: "awake means not sleeping"
+abbrev pub awake : ℕ → Bool
+awake state = not (state =? sleeping)
+
+-- ---- an event goes from one state to another, and the line that says so
+
+-- "A change is logged: sleeping to occurring starts, paused to occurring resumes, occurring to paused pauses, awake to sleeping stops",
+-- or aborts; no change is no transition
+unfoldable pub transition : Bool → ℕ → ℕ → ℕ
+transition aborting old new =
+    if old =? new then noTransition
+    else if new =? sleeping then (if aborting then aborts else stops)
+    else if old =? sleeping then starts
+    else if new =? occurring then resumes
+    else pauses
+
+-- "Each stops adds one to the event's occurrence count, which wraps at 4,294,967,296; aborts adds none."
+unfoldable pub counted : ℕ → ℕ → ℕ
+counted change count = if change =? stops then (count + 1) % 4_294_967_296 else count
+
+-- "Waking sets the clock to 0; so does going to sleep."
+unfoldable pub clocked : ℕ → ℕ → ℕ
+clocked change clock = if change ≤? aborts then 0 else clock
+
+abbrev pub withState : State → Log → Run → Run
+withState state log r = record { state = state; log = log; firings = r .firings; limited = r .limited }
+
+abbrev pub withNode : ℕ → ℕ → ℕ → ℕ → State → State
+withNode n state clock count s = record {
+  «node_state» = set (s .«node_state») n state;
+  «node_clock» = set (s .«node_clock») n clock;
+  «node_count» = set (s .«node_count») n count;
+  «anchor_state» = s .«anchor_state»;
+  «anchor_count» = s .«anchor_count»;
+  «property_value» = s .«property_value»;
+  «property_count» = s .«property_count»;
+}
+
+abbrev pub withAnchor : ℕ → ℕ → ℕ → State → State
+withAnchor a state count s = record {
+  «node_state» = s .«node_state»;
+  «node_clock» = s .«node_clock»;
+  «node_count» = s .«node_count»;
+  «anchor_state» = set (s .«anchor_state») a state;
+  «anchor_count» = set (s .«anchor_count») a count;
+  «property_value» = s .«property_value»;
+  «property_count» = s .«property_count»;
+}
+
+abbrev pub withValue : ℕ → ℤ → ℕ → State → State
+withValue p value count s = record {
+  «node_state» = s .«node_state»;
+  «node_clock» = s .«node_clock»;
+  «node_count» = s .«node_count»;
+  «anchor_state» = s .«anchor_state»;
+  «anchor_count» = s .«anchor_count»;
+  «property_value» = set (s .«property_value») p value;
+  «property_count» = set (s .«property_count») p count;
+}
+
+-- node n changes to the state, and its line is logged; nothing if there is no transition
+unfoldable pub nodeChanged : ℕ → ℕ → ℕ → Run → Run
+nodeChanged n new change r =
+    if change =? noTransition then r
+    else withState
+    (withNode n new (clocked change (nodeClock (r .state) n)) (counted change (nodeCount (r .state) n)) (r .state))
+    (logged (line ofNode n change) (r .log))
+    r
+
+unfoldable pub nodeTo : Bool → ℕ → ℕ → Run → Run
+nodeTo aborting n new r = nodeChanged n new (transition aborting (nodeState (r .state) n) new) r
+
+unfoldable pub anchorChanged : ℕ → ℕ → ℕ → Run → Run
+anchorChanged a new change r =
+    if change =? noTransition then r
+    else withState
+    (withAnchor a new (counted change (anchorCount (r .state) a)) (r .state))
+    (logged (line ofAnchor a change) (r .log))
+    r
+
+unfoldable pub anchorTo : Bool → ℕ → ℕ → Run → Run
+anchorTo aborting a new r = anchorChanged a new (transition aborting (anchorState (r .state) a) new) r
+
+-- "Set logs starts, stores the value, logs stops (count plus one)"
+unfoldable pub setProperty : ℕ → ℤ → Run → Run
+setProperty p value r =
+    withState
+    (withValue p value (counted stops (propertyCount (r .state) p)) (r .state))
+    (logged (line ofProperty p stops) (logged (line ofProperty p starts) (r .log)))
+    r
+
+-- ---- a media and its anchors
+
+-- "The next state of a media stands in one table of state and action: start wakes a sleeping one, stop and abort put an awake one to sleep,
+-- pause takes occurring to paused, resume takes paused to occurring, every other pair changes and logs nothing."
+-- A row for each state; columns: start, stop, abort, pause, resume.
+abbrev pub nextStates : List (List ℕ)
+nextStates =
+    (occurring ∷ sleeping ∷ sleeping ∷ sleeping ∷ sleeping ∷ [])
+    ∷ (occurring ∷ sleeping ∷ sleeping ∷ paused ∷ occurring ∷ [])
+    ∷ (paused ∷ sleeping ∷ sleeping ∷ paused ∷ occurring ∷ [])
+    ∷ []
+
+unfoldable pub nextState : ℕ → ℕ → ℕ
+nextState state action = getD (getD nextStates state []) (action - 1) state
+
+-- which anchors move, by begin, end and state: those that begin at the clock, those awake that end at it, those awake
+unfoldable pub beginsAt : ℕ → ℕ → ℕ → ℕ → Bool
+beginsAt clock begin end state = begin =? clock
+
+unfoldable pub endsAt : ℕ → ℕ → ℕ → ℕ → Bool
+endsAt clock begin end state = awake state && end =? clock
+
+unfoldable pub isAwake : ℕ → ℕ → ℕ → Bool
+isAwake begin end state = awake state
+
+-- "An anchor follows its media: on start those with begin 0 start; on pause, resume, stop, abort its awake ones do likewise."
+unfoldable pub follows : ℕ → ℕ → ℕ → ℕ → Bool
+follows action = if action =? toStart then beginsAt 0 else isAwake
+
+-- anchor a, if it is one of media n that move, goes to the state
+unfoldable pub anchorMoved : Document → (ℕ → ℕ → ℕ → Bool) → Bool → ℕ → ℕ → ℕ → Run → Run
+anchorMoved d moves aborting n new a r =
+    let anchor = anchorAt (d .anchors) a in
+    if anchor .media =? n && moves (anchor .begin) (anchor .end) (anchorState (r .state) a)
+    then anchorTo aborting a new r
+    else r
+
+-- the anchors of media n that move go to the state, "in id order"
+unfoldable pub anchorsMoved : Document → (ℕ → ℕ → ℕ → Bool) → Bool → ℕ → ℕ → Run → Run
+anchorsMoved d moves aborting n new r = ascending (anchorMoved d moves aborting n new) (d .anchors .count) r
+
+-- "Anchor lines in id order follow the media's line for start and resume, and precede it for stop, abort and pause."
+unfoldable pub lineFirst : ℕ → Bool
+lineFirst action = action =? toStart || action =? toResume
+
+unfoldable pub mediaTo : Document → ℕ → ℕ → ℕ → Run → Run
+mediaTo d action n new r =
+    let aborting = action =? toAbort in
+    if lineFirst action
+    then anchorsMoved d (follows action) aborting n new (nodeTo aborting n new r)
+    else nodeTo aborting n new (anchorsMoved d (follows action) aborting n new r)
+
+-- an action on media n
+unfoldable pub mediaMoved : Document → ℕ → ℕ → Run → Run
+mediaMoved d action n r =
+    let old = nodeState (r .state) n in
+    let new = nextState old action in
+    if old =? new then r else mediaTo d action n new r
+
+-- ---- start
+
+-- bind b is of switch n and its rule holds
+unfoldable pub bindHolds : Document → List ℤ → ℕ → ℕ → Bool
+bindHolds d values n b =
+    let bind = bindAt (d .binds) b in
+    bind .switch =? n && not (bind .rule =? noId) && ruleHolds (d .rules) values (bind .rule)
+
+-- "its first bind whose rule holds, else its default, else nothing": the bind that switch n finds; the number of binds where there is none
+unfoldable pub foundBind : Document → List ℤ → ℕ → ℕ
+foundBind d values n =
+    let b = first (bindHolds d values n) (d .binds .count) 0 in
+    if b <? d .binds .count then b else first (isDefault (d .binds) n) (d .binds .count) 0
+
+-- where `start` starts a child: "A sleeping context starts its ports' children in record order"
+unfoldable pub portStarted : Document → (ℕ → Run → Run) → ℕ → ℕ → Run → Run
+portStarted d start n p r = if portAt (d .ports) p .context =? n then start (portAt (d .ports) p .child) r else r
+
+unfoldable pub contextStarted : Document → (ℕ → Run → Run) → ℕ → Run → Run
+contextStarted d start n r = ascending (portStarted d start n) (d .ports .count) r
+
+-- "and a sleeping switch starts the child of its first bind whose rule holds"
+unfoldable pub switchStarted : Document → (ℕ → Run → Run) → ℕ → Run → Run
+switchStarted d start n r =
+    let b = foundBind d (r .state .«property_value») n in
+    if b <? d .binds .count then start (bindAt (d .binds) b .child) r else r
+
+-- "Start of an awake composite does nothing."
+unfoldable pub startedOne : Document → (ℕ → Run → Run) → ℕ → Run → Run
+startedOne d start n r =
+    if isMedia (d .nodes) n then mediaMoved d toStart n r
+    else if awake (nodeState (r .state) n) then r
+    else if typeOf (d .nodes) n =? context then contextStarted d start n r
+    else switchStarted d start n r
+
+-- "contexts and switches nest in each other": a child's id is above its parent's, so 64 levels are enough
+unfoldable pub started : Document → ℕ → ℕ → Run → Run
+started d zero n r = r
+started d (suc levels) n r = startedOne d (started d levels) n r
+
+-- ---- "Stop, abort, pause and resume act on the target if media, else on every media below it, ids ascending."
+
+-- node k is the target or lies below it: a parent's id is below its child's, so the way up from k ends at the target or passes it
+unfoldable pub leadsTo : Nodes → ℕ → ℕ → ℕ → Bool
+leadsTo nodes target zero k = k =? target
+leadsTo nodes target (suc steps) k = if target <? k then leadsTo nodes target steps (parentOf nodes k) else k =? target
+
+abbrev pub isBelow : Nodes → ℕ → ℕ → Bool
+isBelow nodes target k = leadsTo nodes target k k
+
+unfoldable pub movedBelow : Document → ℕ → ℕ → ℕ → Run → Run
+movedBelow d action target n r =
+    if isMedia (d .nodes) n && isBelow (d .nodes) target n then mediaMoved d action n r else r
+
+unfoldable pub allMoved : Document → ℕ → ℕ → Run → Run
+allMoved d action target r = ascending (movedBelow d action target) (d .nodes .count) r
+
+-- ---- settling (01's term): every composite takes the state that its children give it
+
+-- "its children are the nodes that name it as parent"
+unfoldable pub childIn : Nodes → List ℕ → ℕ → ℕ → ℕ → Bool
+childIn nodes states state c k = parentOf nodes k =? c && getD states k 0 =? state
+
+-- "The new state is occurring if a child is, else paused if a child is, else sleeping; with no child, sleeping."
+unfoldable pub childrenState : Nodes → List ℕ → ℕ → ℕ
+childrenState nodes states c =
+    if some (childIn nodes states occurring c) (nodes .count) then occurring
+    else if some (childIn nodes states paused c) (nodes .count) then paused
+    else sleeping
+
+-- "Only when the action is abort do the target and composites below it log aborts instead; those above log stops."
+unfoldable pub abortsAt : Nodes → ℕ → ℕ → ℕ → Bool
+abortsAt nodes action target c = action =? toAbort && isBelow nodes target c
+
+unfoldable pub settledOne : Nodes → ℕ → ℕ → ℕ → Run → Run
+settledOne nodes action target c r =
+    if isMedia nodes c then r
+    else nodeTo (abortsAt nodes action target c) c (childrenState nodes (r .state .«node_state») c) r
+
+-- "composites by descending id"
+unfoldable pub settled : Nodes → ℕ → ℕ → Run → Run
+settled nodes action target r = descending (settledOne nodes action target) (nodes .count) r
+
+-- ---- an action, and "Settling comes once after each action"
+
+unfoldable pub performed : Document → ℕ → ℕ → ℤ → Run → Run
+performed d action target value r =
+    if action =? toSet then setProperty target value r
+    else if action =? toStart then started d 64 target r
+    else allMoved d action target r
+
+unfoldable pub acted : Document → ℕ → ℕ → ℤ → Run → Run
+acted d action target value r = settled (d .nodes) action target (performed d action target value r)

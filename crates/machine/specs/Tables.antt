@@ -1,0 +1,254 @@
+-- The tables of a session: the empty session, what a table says of an id, an entry as a record, and a table with one entry more.
+use Prim.Native.Nat.{ℕ, zero, _+_, _-_, _*_}
+use mathlib.Core.Bool.{Bool, true, false, not, _&&_}
+use mathlib.Core.List.{List}
+use lib.IntN.{ℤ, pos}
+use lib.ListN.{getD, set, replicate}
+use Rattle.base.specs.Tests.{_=?_, _<?_}
+use Rattle.machine.specs.Terms.{context, media, switch}
+use Rattle.machine.specs.declared.Nodes.{Nodes}
+use Rattle.machine.specs.declared.Anchors.{Anchors}
+use Rattle.machine.specs.declared.Rules.{Rules}
+use Rattle.machine.specs.declared.Binds.{Binds}
+use Rattle.machine.specs.declared.Ports.{Ports}
+use Rattle.machine.specs.declared.Links.{Links}
+use Rattle.machine.specs.declared.Actions.{Actions}
+use Rattle.machine.specs.declared.Document.{Document}
+use Rattle.machine.specs.declared.State.{State}
+use Rattle.machine.specs.declared.Session.{Session}
+use Rattle.machine.specs.declared.NodeRecord.{NodeRecord}
+use Rattle.machine.specs.declared.AnchorRecord.{AnchorRecord}
+use Rattle.machine.specs.declared.RuleRecord.{RuleRecord}
+use Rattle.machine.specs.declared.BindRecord.{BindRecord}
+use Rattle.machine.specs.declared.PortRecord.{PortRecord}
+use Rattle.machine.specs.declared.LinkRecord.{LinkRecord}
+use Rattle.machine.specs.declared.ActionRecord.{ActionRecord}
+
+-- ---- "the empty one: no entry in any table, limit 0, all else zero"
+
+unfoldable pub emptyDocument : Document
+emptyDocument = record {
+  limit = 0;
+  nodes = record { count = 0; types = replicate 64 0; parents = replicate 64 0; durations = replicate 64 0 };
+  anchors = record { count = 0; media = replicate 128 0; begins = replicate 128 0; ends = replicate 128 0 };
+  properties = 0;
+  rules = record {
+    count = 0;
+    kinds = replicate 32 0;
+    properties = replicate 32 0;
+    comparators = replicate 32 0;
+    values = replicate 32 (pos 0);
+    operators = replicate 32 0;
+    lefts = replicate 32 0;
+    rights = replicate 32 0;
+  };
+  binds = record { count = 0; switches = replicate 64 0; children = replicate 64 0; rules = replicate 64 0 };
+  ports = record { count = 0; contexts = replicate 64 0; children = replicate 64 0 };
+  links = record {
+    count = 0;
+    owners = replicate 64 0;
+    classes = replicate 64 0;
+    subjects = replicate 64 0;
+    transitions = replicate 64 0;
+    guards = replicate 64 0;
+    «action_counts» = replicate 64 0;
+  };
+  actions = record { actions = replicate 512 0; targets = replicate 512 0; values = replicate 512 (pos 0) };
+}
+
+-- "A new session has all sleeping, clocks and counts 0."
+unfoldable pub newState : State
+newState = record {
+  «node_state» = replicate 64 0;
+  «node_clock» = replicate 64 0;
+  «node_count» = replicate 64 0;
+  «anchor_state» = replicate 128 0;
+  «anchor_count» = replicate 128 0;
+  «property_value» = replicate 32 (pos 0);
+  «property_count» = replicate 32 0;
+}
+
+unfoldable pub emptySession : Session
+emptySession = record { document = emptyDocument; state = newState }
+
+-- ---- what the tables say of an id
+
+abbrev pub typeOf : Nodes → ℕ → ℕ
+typeOf nodes n = getD (nodes .types) n 0
+
+abbrev pub parentOf : Nodes → ℕ → ℕ
+parentOf nodes n = getD (nodes .parents) n 0
+
+abbrev pub durationOf : Nodes → ℕ → ℕ
+durationOf nodes n = getD (nodes .durations) n 0
+
+abbrev pub isMedia : Nodes → ℕ → Bool
+isMedia nodes n = typeOf nodes n =? media
+
+-- id n is given, and to a node of this type
+abbrev pub given : Nodes → ℕ → ℕ → Bool
+given nodes type n = n <? nodes .count && typeOf nodes n =? type
+
+-- ---- an entry as a record
+
+abbrev pub nodeAt : Nodes → ℕ → NodeRecord
+nodeAt t i = record { «node_type» = typeOf t i; parent = parentOf t i; duration = durationOf t i }
+
+abbrev pub anchorAt : Anchors → ℕ → AnchorRecord
+anchorAt t i = record { media = getD (t .media) i 0; begin = getD (t .begins) i 0; end = getD (t .ends) i 0 }
+
+abbrev pub ruleAt : Rules → ℕ → RuleRecord
+ruleAt t i = record {
+  kind = getD (t .kinds) i 0;
+  property = getD (t .properties) i 0;
+  comparator = getD (t .comparators) i 0;
+  value = getD (t .values) i (pos 0);
+  operator = getD (t .operators) i 0;
+  left = getD (t .lefts) i 0;
+  right = getD (t .rights) i 0;
+}
+
+abbrev pub bindAt : Binds → ℕ → BindRecord
+bindAt t i = record { switch = getD (t .switches) i 0; child = getD (t .children) i 0; rule = getD (t .rules) i 0 }
+
+abbrev pub portAt : Ports → ℕ → PortRecord
+portAt t i = record { context = getD (t .contexts) i 0; child = getD (t .children) i 0 }
+
+abbrev pub linkAt : Links → ℕ → LinkRecord
+linkAt t i = record {
+  owner = getD (t .owners) i 0;
+  class = getD (t .classes) i 0;
+  subject = getD (t .subjects) i 0;
+  transition = getD (t .transitions) i 0;
+  guard = getD (t .guards) i 0;
+}
+
+-- how many actions link l has, and its action j
+abbrev pub actionCount : Links → ℕ → ℕ
+actionCount t l = getD (t .«action_counts») l 0
+
+abbrev pub actionAt : Actions → ℕ → ℕ → ActionRecord
+actionAt t l j = record {
+  action = getD (t .actions) (8 * l + j) 0;
+  target = getD (t .targets) (8 * l + j) 0;
+  value = getD (t .values) (8 * l + j) (pos 0);
+}
+
+-- ---- one entry more: "Ids are one byte, given from 0 in order of appearance within each table."
+
+abbrev pub moreNodes : NodeRecord → Nodes → Nodes
+moreNodes r t = record {
+  count = t .count + 1;
+  types = set (t .types) (t .count) (r .«node_type»);
+  parents = set (t .parents) (t .count) (r .parent);
+  durations = set (t .durations) (t .count) (r .duration);
+}
+
+abbrev pub moreAnchors : AnchorRecord → Anchors → Anchors
+moreAnchors r t = record {
+  count = t .count + 1;
+  media = set (t .media) (t .count) (r .media);
+  begins = set (t .begins) (t .count) (r .begin);
+  ends = set (t .ends) (t .count) (r .end);
+}
+
+abbrev pub moreRules : RuleRecord → Rules → Rules
+moreRules r t = record {
+  count = t .count + 1;
+  kinds = set (t .kinds) (t .count) (r .kind);
+  properties = set (t .properties) (t .count) (r .property);
+  comparators = set (t .comparators) (t .count) (r .comparator);
+  values = set (t .values) (t .count) (r .value);
+  operators = set (t .operators) (t .count) (r .operator);
+  lefts = set (t .lefts) (t .count) (r .left);
+  rights = set (t .rights) (t .count) (r .right);
+}
+
+abbrev pub moreBinds : BindRecord → Binds → Binds
+moreBinds r t = record {
+  count = t .count + 1;
+  switches = set (t .switches) (t .count) (r .switch);
+  children = set (t .children) (t .count) (r .child);
+  rules = set (t .rules) (t .count) (r .rule);
+}
+
+abbrev pub morePorts : PortRecord → Ports → Ports
+morePorts r t = record {
+  count = t .count + 1;
+  contexts = set (t .contexts) (t .count) (r .context);
+  children = set (t .children) (t .count) (r .child);
+}
+
+-- a new link has no action yet
+abbrev pub moreLinks : LinkRecord → Links → Links
+moreLinks r t = record {
+  count = t .count + 1;
+  owners = set (t .owners) (t .count) (r .owner);
+  classes = set (t .classes) (t .count) (r .class);
+  subjects = set (t .subjects) (t .count) (r .subject);
+  transitions = set (t .transitions) (t .count) (r .transition);
+  guards = set (t .guards) (t .count) (r .guard);
+  «action_counts» = t .«action_counts»;
+}
+
+-- an action "belongs to the latest link"
+abbrev pub latest : Links → ℕ
+latest t = t .count - 1
+
+abbrev pub moreActionCounts : Links → Links
+moreActionCounts t = record {
+  count = t .count;
+  owners = t .owners;
+  classes = t .classes;
+  subjects = t .subjects;
+  transitions = t .transitions;
+  guards = t .guards;
+  «action_counts» = set (t .«action_counts») (latest t) (actionCount t (latest t) + 1);
+}
+
+abbrev pub moreActions : ℕ → ActionRecord → Actions → Actions
+moreActions place r t = record {
+  actions = set (t .actions) place (r .action);
+  targets = set (t .targets) place (r .target);
+  values = set (t .values) place (r .value);
+}
+
+-- ---- a session with another table
+
+abbrev pub withDocument : Document → Session → Session
+withDocument d s = record { document = d; state = s .state }
+
+abbrev pub withLimit : ℕ → Document → Document
+withLimit t d = record { limit = t; nodes = d .nodes; anchors = d .anchors; properties = d .properties; rules = d .rules; binds = d .binds; ports = d .ports; links = d .links; actions = d .actions }
+
+abbrev pub withNodes : Nodes → Document → Document
+withNodes t d = record { limit = d .limit; nodes = t; anchors = d .anchors; properties = d .properties; rules = d .rules; binds = d .binds; ports = d .ports; links = d .links; actions = d .actions }
+
+abbrev pub withAnchors : Anchors → Document → Document
+withAnchors t d = record { limit = d .limit; nodes = d .nodes; anchors = t; properties = d .properties; rules = d .rules; binds = d .binds; ports = d .ports; links = d .links; actions = d .actions }
+
+abbrev pub withProperties : ℕ → Document → Document
+withProperties t d = record { limit = d .limit; nodes = d .nodes; anchors = d .anchors; properties = t; rules = d .rules; binds = d .binds; ports = d .ports; links = d .links; actions = d .actions }
+
+abbrev pub withRules : Rules → Document → Document
+withRules t d = record { limit = d .limit; nodes = d .nodes; anchors = d .anchors; properties = d .properties; rules = t; binds = d .binds; ports = d .ports; links = d .links; actions = d .actions }
+
+abbrev pub withBinds : Binds → Document → Document
+withBinds t d = record { limit = d .limit; nodes = d .nodes; anchors = d .anchors; properties = d .properties; rules = d .rules; binds = t; ports = d .ports; links = d .links; actions = d .actions }
+
+abbrev pub withPorts : Ports → Document → Document
+withPorts t d = record { limit = d .limit; nodes = d .nodes; anchors = d .anchors; properties = d .properties; rules = d .rules; binds = d .binds; ports = t; links = d .links; actions = d .actions }
+
+abbrev pub withLinks : Links → Actions → Document → Document
+withLinks t a d = record { limit = d .limit; nodes = d .nodes; anchors = d .anchors; properties = d .properties; rules = d .rules; binds = d .binds; ports = d .ports; links = t; actions = a }
+
+abbrev pub withValues : List ℤ → State → State
+withValues values s = record {
+  «node_state» = s .«node_state»;
+  «node_clock» = s .«node_clock»;
+  «node_count» = s .«node_count»;
+  «anchor_state» = s .«anchor_state»;
+  «anchor_count» = s .«anchor_count»;
+  «property_value» = values;
+  «property_count» = s .«property_count»;
+}

@@ -1,0 +1,18 @@
+-- `records::checks::duration_right` meets its contract. Assumes nothing.
+use Rattle.base.specs.Tests.{if_then_else_}
+use borrow.Author.Tests.{lt-ltb, le-ltb, le-leb, lt-leb, eq-eqb, ne-eqb}
+use borrow.Author.Needs.{needs}
+use Rattle.records.proofs.checks.duration_right.Statement.{statement}
+use Rattle.records.proofs.checks.duration_right.Tie as tie
+
+pub duration-right-spec : {M : Type 1} → statement M
+duration-right-spec =
+    tie.close
+    (tie.spec
+    (λ c.
+    let the-if1 = c .if1 in
+    rw (eq-eqb _ _ (the-if1 .taken)))  -- returns
+    (λ c.
+    let the-if1 = c .if1 in
+    rw (ne-eqb _ _ (the-if1 .left)))  -- returns-2
+    )

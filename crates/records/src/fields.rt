@@ -1,0 +1,57 @@
+// Fields of several bytes, the low byte first.
+ghost use mathlib.Core.Path.{_≡_};
+ghost use Prim.Native.Nat.{_<_, _+_, _*_};
+ghost use lib.IntN.{negsuc};
+ghost use lib.ListN.{length};
+ghost use Rattle.machine.specs.Fields.{u16, u32, signed, i32};
+
+fn u16_of(low: u8, high: u8) -> u16
+    ensures { λ r. ⌜ r ≡ low + 256 * high ⌝ }
+{
+    low as u16 + 256 * (high as u16)
+}
+
+pub fn u16_at(body: &[u8], at: usize) -> u16
+    requires { ⌜ at + 1 < length (now body) ⌝ }
+    ensures { λ r. ⌜ r ≡ u16 (now (body .entry)) at ⌝ }
+{
+    u16_of(body[at], body[at + 1])
+}
+
+fn u32_of(a: u8, b: u8, c: u8, d: u8) -> u32
+    ensures { λ r. ⌜ r ≡ a + 256 * b + 65536 * c + 16777216 * d ⌝ }
+{
+    (a as u32) + 256 * (b as u32) + 65536 * (c as u32) + 16777216 * (d as u32)
+}
+
+fn u32_at(body: &[u8], at: usize) -> u32
+    requires { ⌜ at + 3 < length (now body) ⌝ }
+    ensures { λ r. ⌜ r ≡ u32 (now (body .entry)) at ⌝ }
+{
+    u32_of(body[at], body[at + 1], body[at + 2], body[at + 3])
+}
+
+// -1 - m, for a number m below 2^31.
+fn below_zero(m: u32) -> i32
+    requires { ⌜ m < 2147483648 ⌝ }
+    ensures { λ r. ⌜ r ≡ negsuc m ⌝ }
+{
+    -1 - (m as i32)
+}
+
+// The number of 32 bits, read as signed.
+fn signed_of(n: u32) -> i32
+    ensures { λ r. ⌜ r ≡ signed n ⌝ }
+{
+    if n < 2147483648 {
+        return n as i32;
+    }
+    below_zero(4294967295 - n)
+}
+
+pub fn i32_at(body: &[u8], at: usize) -> i32
+    requires { ⌜ at + 3 < length (now body) ⌝ }
+    ensures { λ r. ⌜ r ≡ i32 (now (body .entry)) at ⌝ }
+{
+    signed_of(u32_at(body, at))
+}

@@ -1,0 +1,4 @@
+mod ByKind
+mod Refusals
+mod Faults
+mod Records

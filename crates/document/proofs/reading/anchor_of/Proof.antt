@@ -1,0 +1,17 @@
+-- `document::reading::anchor_of` meets its contract. Assumes nothing.
+use borrow.Author.Needs.{needs}
+use Rattle.document.proofs.reading.anchor_of.Statement.{statement}
+use Rattle.document.proofs.reading.anchor_of.Tie as tie
+
+pub anchor-of-spec : {M : Type 1} → statement M
+anchor-of-spec =
+    tie.close
+    (tie.spec
+    (λ c. search needs)  -- shared-slice-read-t3
+    (λ c κs. search needs)  -- u16-at-requires
+    (λ c κs. search needs)  -- u16-at-requires-2
+    (λ c.
+    let the-u16-at = c .before .u16-at in
+    let the-u16-at2 = c .u16-at2 in
+    rw (the-u16-at .ensures, the-u16-at2 .ensures))  -- returns
+    )

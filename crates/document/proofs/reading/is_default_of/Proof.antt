@@ -1,0 +1,17 @@
+-- `document::reading::is_default_of` meets its contract. Assumes nothing.
+use borrow.Author.Tests.{eq-eqb, ne-eqb}
+use borrow.Author.Needs.{needs}
+use Rattle.document.proofs.reading.is_default_of.Statement.{statement}
+use Rattle.document.proofs.reading.is_default_of.Tie as tie
+
+pub is-default-of-spec : {M : Type 1} → statement M
+is-default-of-spec =
+    tie.close
+    (tie.spec
+    (λ c.
+    let the-if1 = c .if1 in
+    rw (ne-eqb _ _ (the-if1 .taken)))  -- returns
+    (λ c.
+    let the-if1 = c .if1 in
+    rw (eq-eqb _ _ (the-if1 .left)))  -- returns-2
+    )

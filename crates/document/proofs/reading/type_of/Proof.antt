@@ -1,0 +1,17 @@
+-- `document::reading::type_of` meets its contract. Assumes nothing.
+use borrow.Author.Needs.{needs}
+use Rattle.document.proofs.reading.type_of.Statement.{statement}
+use Rattle.document.proofs.reading.type_of.Tie as tie
+
+pub type-of-spec : {M : Type 1} → statement M
+type-of-spec =
+    tie.close
+    (tie.spec
+    (λ c. search needs)  -- slice-aggregate-byte-in
+    (λ c κs. search needs)  -- index-of-requires
+    (λ c κs. search needs)  -- byte-in-requires
+    (λ c.
+    let the-index-of = c .before .index-of in
+    let the-byte-in = c .byte-in in
+    rw (← the-index-of .ensures .0) (the-byte-in .ensures))  -- returns
+    )

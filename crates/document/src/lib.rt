@@ -1,0 +1,4 @@
+// Loading: the bytes of a document become a session, or a numbered refusal.
+pub mod entering;
+pub mod loading;
+pub mod reading;

@@ -1,0 +1,6 @@
+pub mod EmptySession
+mod Prelude
+mod Verdicts
+mod Zeros
+mod Full
+mod SamePort

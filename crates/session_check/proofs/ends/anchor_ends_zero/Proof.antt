@@ -1,0 +1,18 @@
+-- `session_check::ends::anchor_ends_zero` meets its contract. Assumes nothing.
+use Rattle.session_check.proofs.Prelude.{needs}
+use Rattle.session_check.proofs.ends.anchor_ends_zero.Statement.{statement}
+use Rattle.session_check.proofs.ends.anchor_ends_zero.Tie as tie
+
+pub anchor-ends-zero-spec : {M : Type 1} → statement M
+anchor-ends-zero-spec =
+    tie.close
+    (tie.spec
+    (λ c κs. search needs)  -- bytes-zero-from-requires
+    (λ c κs. search needs)  -- numbers-zero-from-requires
+    (λ c κs. search needs)  -- numbers-zero-from-requires-2
+    (λ c.
+    let the-numbers-zero-from2 = c .numbers-zero-from2 in
+    let the-numbers-zero-from = c .before .before .before .before .numbers-zero-from in
+    let the-bytes-zero-from = c .before .before .before .before .before .before .before .before .bytes-zero-from in
+    rw (the-numbers-zero-from2 .ensures, the-numbers-zero-from .ensures, the-bytes-zero-from .ensures))  -- returns
+    )

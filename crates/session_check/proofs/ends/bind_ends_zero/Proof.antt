@@ -1,0 +1,18 @@
+-- `session_check::ends::bind_ends_zero` meets its contract. Assumes nothing.
+use Rattle.session_check.proofs.Prelude.{needs}
+use Rattle.session_check.proofs.ends.bind_ends_zero.Statement.{statement}
+use Rattle.session_check.proofs.ends.bind_ends_zero.Tie as tie
+
+pub bind-ends-zero-spec : {M : Type 1} → statement M
+bind-ends-zero-spec =
+    tie.close
+    (tie.spec
+    (λ c κs. search needs)  -- bytes-zero-from-requires
+    (λ c κs. search needs)  -- bytes-zero-from-requires-2
+    (λ c κs. search needs)  -- bytes-zero-from-requires-3
+    (λ c.
+    let the-bytes-zero-from3 = c .bytes-zero-from3 in
+    let the-bytes-zero-from2 = c .before .before .before .before .bytes-zero-from2 in
+    let the-bytes-zero-from = c .before .before .before .before .before .before .before .before .bytes-zero-from in
+    rw (the-bytes-zero-from3 .ensures, the-bytes-zero-from2 .ensures, the-bytes-zero-from .ensures))  -- returns
+    )

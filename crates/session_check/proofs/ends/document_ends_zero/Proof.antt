@@ -1,0 +1,28 @@
+-- `session_check::ends::document_ends_zero` meets its contract. Assumes nothing.
+use Rattle.session_check.proofs.Prelude.{needs}
+use Rattle.machine.specs.Broken.{documentEndsZero}
+use Rattle.session_check.proofs.ends.document_ends_zero.Statement.{statement}
+use Rattle.session_check.proofs.ends.document_ends_zero.Tie as tie
+
+pub document-ends-zero-spec : {M : Type 1} → statement M
+unfolding documentEndsZero
+document-ends-zero-spec =
+    tie.close
+    (tie.spec
+    (λ c κs. search needs)  -- node-ends-zero-requires
+    (λ c κs. search needs)  -- anchor-ends-zero-requires
+    (λ c κs. search needs)  -- rule-ends-zero-requires
+    (λ c κs. search needs)  -- bind-ends-zero-requires
+    (λ c κs. search needs)  -- port-ends-zero-requires
+    (λ c κs. search needs)  -- link-ends-zero-requires
+    (λ c κs. search needs)  -- action-ends-zero-requires
+    (λ c.
+    let the-action-ends-zero = c .action-ends-zero in
+    let the-link-ends-zero = c .before .link-ends-zero in
+    let the-port-ends-zero = c .before .before .port-ends-zero in
+    let the-bind-ends-zero = c .before .before .before .bind-ends-zero in
+    let the-rule-ends-zero = c .before .before .before .before .rule-ends-zero in
+    let the-anchor-ends-zero = c .before .before .before .before .before .anchor-ends-zero in
+    let the-node-ends-zero = c .before .before .before .before .before .before .node-ends-zero in
+    rw (the-action-ends-zero .ensures, the-link-ends-zero .ensures, the-port-ends-zero .ensures, the-bind-ends-zero .ensures, the-rule-ends-zero .ensures, the-anchor-ends-zero .ensures, the-node-ends-zero .ensures))  -- returns
+    )

@@ -1,0 +1,39 @@
+-- `session_check::ends::values_zero_from` meets its contract. Assumes nothing.
+use Rattle.session_check.proofs.Prelude.{_≡_, refl, _&&_, length, _-_, needs}
+use Rattle.machine.specs.Broken.{zeroIntsFrom}
+use mir.Facts.{toZ-ofZ}
+use mir.Syntax.{w32}
+use Rattle.session_check.proofs.Zeros.{integers, zeros-more, zeros-done}
+use Rattle.session_check.proofs.ends.values_zero_from.Statement.{statement}
+use Rattle.session_check.proofs.ends.values_zero_from.Tie as tie
+
+abbrev Inv-loop : tie.InvT-loop
+Inv-loop table end zero₀ next₀ zero next = (zero && zeroIntsFrom next table) ≡ zeroIntsFrom end table
+
+abbrev μ-loop : tie.MeasureT-loop
+μ-loop table end zero₀ next₀ zero next = length table - next
+
+pub values-zero-from-spec : {M : Type 1} → statement M
+values-zero-from-spec =
+    tie.close
+    (tie.spec
+    Inv-loop μ-loop
+    (λ c. refl)  -- loop-holds
+    (λ c. search needs)  -- add-next
+    (λ c. search needs)  -- mul-is-zero
+    (λ c. search needs)  -- shared-slice-copy-out-is-zero
+    (λ c κs. search needs)  -- is-zero-requires
+    (λ c. search needs)  -- loop-less
+    (λ c.
+    let the-is-zero = c .is-zero in
+    let the-is-zero-arg = c .before .is-zero-arg in
+    let the-entry = c .before .before .before .before in
+    let the-loop = c .before .before .before .loop in
+    let the-loop-test = c .before .before .loop-test in
+    rw (the-is-zero .ensures, toZ-ofZ {w = w32} (record { sfits = the-is-zero-arg .given })) (zeros-more integers (the-entry .args .table .now) _ (the-loop .zero) (the-loop .inv) (the-loop-test .taken)))  -- loop-again
+    (λ c.
+    let the-entry = c .before .before in
+    let the-loop = c .before .loop in
+    let the-loop-test = c .loop-test in
+    zeros-done integers (the-entry .args .table .now) _ (the-loop .zero) (the-loop .inv) (the-loop-test .left))  -- returns
+    )

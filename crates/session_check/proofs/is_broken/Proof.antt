@@ -1,0 +1,32 @@
+-- `session_check::is_broken` meets its contract. Assumes nothing.
+use Rattle.session_check.proofs.Prelude.{refl, sym, _∙_, not-true, not-false, needs}
+use Rattle.machine.specs.Broken.{broken}
+use Rattle.session_check.proofs.Full.{entries-within}
+use Rattle.session_check.proofs.is_broken.Statement.{statement}
+use Rattle.session_check.proofs.is_broken.Tie as tie
+
+pub is-broken-spec : {M : Type 1} → statement M
+unfolding broken
+is-broken-spec =
+    tie.close
+    (tie.spec
+    (λ c κs. search needs)  -- tables-obey-requires
+    (λ c.
+    let the-tables-obey = c .before .tables-obey in
+    let the-if1 = c .if1 in
+    rw (← the-tables-obey .ensures, not-true (the-tables-obey .result) (the-if1 .taken)))  -- returns
+    (λ c κs. search needs)  -- document-ends-zero-requires
+    (λ c κs. search needs)  -- state-ends-zero-requires
+    (λ c κs.
+    let the-tables-obey = c .before .before .before .before .before .tables-obey in
+    let the-if1 = c .before .before .before .before .if1 in
+    entries-within _ (sym (the-tables-obey .ensures) ∙ not-false _ (the-if1 .left)))  -- states-right-requires
+    (λ c.
+    let the-tables-obey = c .before .before .before .before .before .before .tables-obey in
+    let the-if1 = c .before .before .before .before .before .if1 in
+    let the-document-ends-zero = c .before .before .document-ends-zero in
+    let the-state-ends-zero = c .before .state-ends-zero in
+    let the-entry = c .before .before .before .before .before .before .before .before .before in
+    let the-states-right = c .states-right in
+    rw (← the-tables-obey .ensures, not-false (the-tables-obey .result) (the-if1 .left), ← the-document-ends-zero .ensures, ← the-state-ends-zero .ensures (the-entry .args .s .document) refl refl refl, ← the-states-right .ensures))  -- returns-2
+    )

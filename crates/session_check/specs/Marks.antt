@@ -1,0 +1,42 @@
+-- Marks, one for each byte: where n is marked, some entry so far passes the test of n.
+use mathlib.Core.Path.{_≡_, refl, sym, _∙_}
+use mathlib.Core.Bool.{Bool, false, _&&_, _||_, or-false}
+use mathlib.Core.List.{List}
+use Prim.Native.Nat.{ℕ, _+_, _<_}
+use native.Mathlib.Numerals.{add-one}
+use native.Mathlib.Omega.{arith}
+use borrow.Author.Tests.{eqb-true, eqb-false}
+use lib.ListN.{length, length-set, getD, set, replicate, getD-replicate}
+use lib.Seq.{getD-set-same, getD-set-other}
+use Rattle.base.specs.Tests.{_=?_, by-test}
+use Rattle.base.specs.Loops.{some}
+
+pub record Marked (test : ℕ → ℕ → Bool) (entries : ℕ) (marks : List Bool) : Type 0 where
+  pub places : length marks ≡ 256
+  pub marked : (n : ℕ) → n < 256 → getD marks n false ≡ some (test n) entries
+
+module _ (test : ℕ → ℕ → Bool) where
+  pub marked-none : Marked test 0 (replicate 256 false)
+  unfolding some
+  marked-none = record { places = refl; marked = λ n h. getD-replicate 256 n false false h }
+
+  -- an entry that passes the test of m alone, and only if `passes`
+  pub marked-more : (i m : ℕ) (marks : List Bool) (passes value : Bool) → m < 256 → ((n : ℕ) → test n i ≡ (m =? n && passes))
+      → value ≡ (getD marks m false || passes) → Marked test i marks → Marked test (i + 1) (set marks m value)
+  unfolding some
+  marked-more i m marks passes value h one e k =
+      record {
+        places = length-set marks m value ∙ k .places;
+        marked = λ n l.
+            rw add-one
+            (by-test (m =? n)
+            (λ q.
+            let u : n ≡ m = sym (eqb-true m n q) in
+            rw (one n, q, u) (getD-set-same marks m value false (omega (arith, k .places)) ∙ e ∙ rw (k .marked m h)))
+            (λ q.
+            rw (one n, q, or-false)
+            (getD-set-other marks m n value false (λ u. eqb-false m n q (sym u)) ∙ k .marked n l)));
+      }
+
+  pub marked-done : (i n : ℕ) (marks : List Bool) → i ≡ n → Marked test i marks → Marked test n marks
+  marked-done i n marks e k = rw e at k

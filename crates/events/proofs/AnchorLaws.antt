@@ -1,0 +1,41 @@
+-- Laws of the anchors that move, and one turn of the loop over them.
+use mathlib.Core.Path.{_≡_, refl, sym, _∙_}
+use mathlib.Core.Bool.{Bool, true, false, _&&_}
+use Prim.Native.Nat.{ℕ, _≤_}
+use native.Mathlib.Omega.{arith}
+use borrow.Author.Tests.{ne-eqb}
+use Rattle.base.specs.Tests.{if_then_else_, _=?_}
+use Rattle.machine.specs.Terms.{toStart, noAction, noTransition}
+use Rattle.machine.specs.Tables.{anchorAt}
+use Rattle.machine.specs.Events.{Run, anchorState, transition, beginsAt, endsAt, follows, anchorTo, anchorChanged, anchorMoved}
+use Rattle.machine.specs.declared.Anchors.{Anchors}
+use Rattle.machine.specs.declared.Document.{Document}
+use Rattle.events.specs.Parts.{selects}
+
+module _ (clock : ℕ) where
+  pub selects-begins : selects toStart clock ≡ beginsAt clock
+  unfolding selects if_then_else_
+  selects-begins = refl
+
+  pub selects-ends : selects noAction clock ≡ endsAt clock
+  unfolding selects if_then_else_
+  selects-ends = refl
+
+pub selects-follows : (action : ℕ) → 1 ≤ action → selects action 0 ≡ follows action
+unfolding selects follows if_then_else_
+selects-follows action h = rw (ne-eqb action 0 (λ e. omega arith))
+
+-- an anchor that does not move has no transition
+changed-if : (b aborting : Bool) (a new : ℕ) (r : Run)
+    → (if b then anchorTo aborting a new r else r) ≡ anchorChanged a new (if b then transition aborting (anchorState (r .state) a) new else noTransition) r
+unfolding if_then_else_ anchorTo anchorChanged
+changed-if true aborting a new r = refl
+changed-if false aborting a new r = refl
+
+-- one anchor, by its transition
+pub anchor-moved : (d : Document) (anchors : Anchors) (moves : ℕ → ℕ → ℕ → Bool) (aborting : Bool) (n new a : ℕ) (r : Run) {z : Run} (change : ℕ)
+    → d .anchors ≡ anchors
+    → change ≡ (if anchorAt anchors a .media =? n && moves (anchorAt anchors a .begin) (anchorAt anchors a .end) (anchorState (r .state) a) then transition aborting (anchorState (r .state) a) new else noTransition)
+    → z ≡ anchorChanged a new change r → z ≡ anchorMoved d moves aborting n new a r
+unfolding anchorMoved
+anchor-moved d anchors moves aborting n new a r change s e p = p ∙ rw (s, e) (sym (changed-if _ aborting a new r))

@@ -1,0 +1,31 @@
+-- `events::anchors::anchor_transition` meets its contract. Assumes nothing.
+use Rattle.events.proofs.Prelude.{needs, eq-eqb, ne-eqb, if_then_else_}
+use Rattle.events.proofs.anchors.anchor_transition.Statement.{statement}
+use Rattle.events.proofs.anchors.anchor_transition.Tie as tie
+
+pub anchor-transition-spec : {M : Type 1} → statement M
+unfolding if_then_else_
+anchor-transition-spec =
+    tie.close
+    (tie.spec
+    (λ c κs. search needs)  -- index-of-requires
+    (λ c.
+    let the-index-of = c .before .index-of in
+    let the-if1 = c .if1 in
+    rw (← the-index-of .ensures .0, ne-eqb _ _ (the-if1 .taken)))  -- returns
+    (λ c κs. search needs)  -- selected-requires
+    (λ c κs. search needs)  -- transition-of-requires
+    (λ c.
+    let the-index-of = c .before .before .before .before .index-of in
+    let the-if1 = c .before .before .before .if1 in
+    let the-selected = c .before .before .selected in
+    let the-if2 = c .before .if2 in
+    let the-transition-of = c .transition-of in
+    rw (← the-index-of .ensures .0, eq-eqb _ _ (the-if1 .left), ← the-selected .ensures, the-if2 .taken) (the-transition-of .ensures))  -- returns-2
+    (λ c.
+    let the-index-of = c .before .before .before .index-of in
+    let the-if1 = c .before .before .if1 in
+    let the-selected = c .before .selected in
+    let the-if2 = c .if2 in
+    rw (← the-index-of .ensures .0, eq-eqb _ _ (the-if1 .left), ← the-selected .ensures, the-if2 .left))  -- returns-3
+    )

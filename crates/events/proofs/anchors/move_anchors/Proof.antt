@@ -1,0 +1,60 @@
+-- `events::anchors::move_anchors` meets its contract. Assumes nothing.
+use Rattle.events.proofs.Prelude.{_≡_, refl, _∙_, _≤_, _-_, length, ascending, ascending-none, ascending-more, ascending-done, needs, arith, eq-eqb, ne-eqb, if_then_else_, on}
+use Rattle.base.specs.Tests.{_=?_}
+use Rattle.machine.specs.Events.{anchorMoved, anchorsMoved, anchorChanged}
+use Rattle.machine.specs.declared.Document.{Document}
+use Rattle.events.specs.Parts.{selects}
+use Rattle.events.proofs.AnchorLaws.{anchor-moved}
+use Rattle.events.proofs.anchors.move_anchors.Statement.{statement}
+use Rattle.events.proofs.anchors.move_anchors.Tie as tie
+
+abbrev Inv-loop : tie.InvT-loop
+Inv-loop log₀ action clock n state anchors t₀ end next₀ log t next = (next ≤ end) × (length log ≡ length log₀) × ((d : Document) → d .anchors ≡ anchors → on t log ≡ ascending (anchorMoved d (selects action clock) (action =? 3) n state) next (on t₀ log₀))
+
+abbrev μ-loop : tie.MeasureT-loop
+μ-loop log₀ action clock n state anchors t₀ end next₀ log t next = end - next
+
+pub move-anchors-spec : {M : Type 1} → statement M
+unfolding if_then_else_ anchorsMoved anchorChanged
+move-anchors-spec =
+    tie.close
+    (tie.spec
+    Inv-loop μ-loop
+    (λ c. (omega arith, refl, λ d e. ascending-none _ _))  -- loop-holds
+    (λ c. search needs)  -- add-next
+    (λ c. search needs)  -- element-copy-out-anchor-transition
+    (λ c. search needs)  -- mul-anchor-transition
+    (λ c. search needs)  -- element-copy-out-anchor-transition-2
+    (λ c. search needs)  -- mul-anchor-transition-2
+    (λ c. search needs)  -- element-copy-out-anchor-transition-3
+    (λ c. search needs)  -- element-copy-out-anchor-transition-4
+    (λ c κs. search needs)  -- anchor-transition-requires
+    (λ c. search needs)  -- cast-emit
+    (λ c κs. search needs)  -- emit-requires
+    (λ c. search needs)  -- element-write-t
+    (λ c. search needs)  -- mul-count-after
+    (λ c. search needs)  -- element-copy-out-count-after
+    (λ c κs. search needs)  -- count-after-requires
+    (λ c. search needs)  -- mul-t
+    (λ c. search needs)  -- element-write-t-2
+    (λ c. search needs)  -- loop-less
+    (λ c.
+    let the-emit = c .before .before .before .before .emit in
+    let the-loop = c .before .before .before .before .before .before .before .before .before .before .before .before .before .loop in
+    let the-anchor-transition = c .before .before .before .before .before .before .before .anchor-transition in
+    let the-if1 = c .before .before .before .before .before .before .if1 in
+    let the-count-after = c .count-after in
+    (omega arith, the-emit .kept .0 ∙ the-loop .inv .1, λ d e. ascending-more _ _ _ (the-loop .inv .2 d e) (anchor-moved _ _ _ _ _ _ _ _ _ e (the-anchor-transition .ensures) (rw (ne-eqb _ _ (the-if1 .taken), ← the-emit .ensures, ← the-count-after .ensures)))))  -- loop-again
+    (λ c. search needs)  -- loop-less-2
+    (λ c.
+    let the-loop = c .before .before .before .before .before .before .before .loop in
+    let the-anchor-transition = c .before .anchor-transition in
+    let the-if1 = c .if1 in
+    (omega arith, the-loop .inv .1, λ d e. ascending-more _ _ _ (the-loop .inv .2 d e) (anchor-moved _ _ _ _ _ _ _ _ _ e (the-anchor-transition .ensures) (rw (eq-eqb _ _ (the-if1 .left))))))  -- loop-again-2
+    (λ c.
+    let the-loop = c .before .loop in
+    the-loop .inv .1)  -- same-length
+    (λ c.
+    let the-loop = c .before .loop in
+    λ d e. ascending-done _ _ _ _ (rw e (omega arith)) (the-loop .inv .2 d e))  -- returns
+    )

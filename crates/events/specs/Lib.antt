@@ -1,0 +1,4 @@
+pub mod LogSlice
+pub mod Running
+pub mod Parts
+pub mod Choosing

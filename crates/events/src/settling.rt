@@ -1,0 +1,63 @@
+// Settling: every composite takes the state that its children give it.
+use super::Work;
+use super::changes::node_to;
+use super::media::is_below;
+use base::index_of;
+use machine::Nodes;
+ghost use mathlib.Core.Path.{_≡_};
+ghost use Prim.Native.Nat.{_<_};
+ghost use Rattle.machine.specs.Events.{abortsAt, settled};
+ghost use Rattle.machine.specs.Sound.{SoundNodes};
+ghost use Rattle.events.specs.Running.{on};
+ghost use Rattle.events.specs.Parts.{withChild};
+
+// Whether composite c logs aborts where it goes to sleep.
+fn aborts_at(nodes: Nodes, action: u8, target: usize, c: usize) -> bool
+    requires { ⌜ SoundNodes nodes × (c < nodes .count) ⌝ }
+    ensures { λ r. ⌜ r ≡ abortsAt nodes action target c ⌝ }
+{
+    if action != 3 {
+        return false;
+    }
+    is_below(nodes, target, c)
+}
+
+// The state that some children give, with one child more.
+fn with_child(state: u8, child: u8) -> u8
+    ensures { λ r. ⌜ r ≡ withChild state child ⌝ }
+{
+    if child == 1 {
+        return 1;
+    }
+    if state != 0 {
+        return state;
+    }
+    if child == 2 {
+        return 2;
+    }
+    0
+}
+
+// Composites by descending id. A child has a later id than its parent: where a composite is come to, the states of all its children are gathered.
+pub fn settle(nodes: Nodes, w: Work, log: &mut [u8], action: u8, target: usize) -> Work
+    requires { ⌜ SoundNodes nodes ⌝ }
+    ensures { λ r. ⌜ on r (now (log .exit)) ≡ settled nodes action target (on w (now (log .entry))) ⌝ }
+{
+    let mut t = w;
+    let mut gathered: [u8; 256] = [0; 256];
+    let mut n = nodes.count;
+    while 0 < n {
+        n -= 1;
+        let parent = index_of(nodes.parents[n]);
+        if nodes.types[n] == 1 {
+            let state = with_child(gathered[parent], t.node_state[n]);
+            gathered[parent] = state;
+        } else {
+            let aborting = aborts_at(nodes, action, target, n);
+            t = node_to(t, &mut *log, aborting, n, gathered[n]);
+            let state = with_child(gathered[parent], t.node_state[n]);
+            gathered[parent] = state;
+        }
+    }
+    t
+}

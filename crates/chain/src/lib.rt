@@ -1,0 +1,135 @@
+// The chain of links: the lines of the log are taken in order, those too that are written meanwhile, and links fire on them.
+use events::Work;
+use machine::Document;
+use machine::Line;
+ghost use mathlib.Core.Path.{_≡_};
+ghost use mathlib.Core.Bool.{_&&_};
+ghost use Prim.Native.Nat.{_+_, _<_};
+ghost use Rattle.base.specs.Tests.{_=?_};
+ghost use Rattle.machine.specs.Tables.{linkAt};
+ghost use Rattle.machine.specs.Chain.{firingLogged, actionsRun, fired, linkTried, lineTaken, chained};
+ghost use Rattle.machine.specs.Sound.{Sound};
+ghost use Rattle.events.specs.Running.{on};
+ghost use Rattle.chain.specs.Trying.{guarded};
+
+// The actions of link l run in order, each settled.
+fn run_actions(d: Document, w: Work, log: &mut [u8], l: usize) -> Work
+    requires { ⌜ Sound d × (l < d .links .count) ⌝ }
+    ensures { λ r. ⌜ on r (now (log .exit)) ≡ actionsRun d l (on w (now (log .entry))) ⌝ }
+{
+    let mut t = w;
+    let links = d.links;
+    let actions = d.actions;
+    let end = base::index_of(links.action_counts[l]);
+    let mut next = 0;
+    while next < end {
+        let j = next;
+        next += 1;
+        let place = 8 * l + j;
+        let target = base::index_of(actions.targets[place]);
+        t = events::acting::act(
+            d,
+            t,
+            &mut *log,
+            actions.actions[place],
+            target,
+            actions.values[place],
+        );
+    }
+    t
+}
+
+// A firing is logged and counted.
+fn log_firing(w: Work, log: &mut [u8], l: usize) -> Work
+    requires { ⌜ (l < 64) × (w .firings < 255) ⌝ }
+    ensures { λ r. ⌜ on r (now (log .exit)) ≡ firingLogged l (on w (now (log .entry))) ⌝ }
+{
+    let mut t = w;
+    let at = events::log::emit(log, t.at, 5, l as u8, 0);
+    t.at = at;
+    let firings = t.firings + 1;
+    t.firings = firings;
+    t
+}
+
+// Link l fires, unless the limit is used up.
+fn fire(d: Document, w: Work, log: &mut [u8], l: usize) -> Work
+    requires { ⌜ Sound d × (l < d .links .count) ⌝ }
+    ensures { λ r. ⌜ on r (now (log .exit)) ≡ fired d l (on w (now (log .entry))) ⌝ }
+{
+    if w.firings < d.limit {
+        let v = log_firing(w, &mut *log, l);
+        return run_actions(d, v, log, l);
+    }
+    let mut t = w;
+    t.limited = true;
+    t
+}
+
+// Link l hears a line, and fires if its guard holds now.
+fn try_link(d: Document, w: Work, log: &mut [u8], l: usize, guard: u8) -> Work
+    requires { ⌜ Sound d × ((l < d .links .count) × (linkAt (d .links) l .guard ≡ guard)) ⌝ }
+    ensures { λ r. ⌜ on r (now (log .exit)) ≡ guarded d l (on w (now (log .entry))) ⌝ }
+{
+    if w.limited {
+        return w;
+    }
+    let values = w.property_value;
+    if rules::guard_holds(d.rules, values, guard) {
+        return fire(d, w, log, l);
+    }
+    w
+}
+
+// Whether a link of this class, subject and transition hears the line.
+fn hears(class: u8, subject: u8, transition: u8, x: Line) -> bool
+    ensures { λ b. ⌜ b ≡ class =? x .class && subject =? x .id && transition =? x .transition ⌝ }
+{
+    if class != x.class {
+        return false;
+    }
+    if subject != x.id {
+        return false;
+    }
+    transition == x.transition
+}
+
+// One line is taken: links by id.
+fn take_line(d: Document, w: Work, log: &mut [u8], x: Line) -> Work
+    requires { ⌜ Sound d ⌝ }
+    ensures { λ r. ⌜ on r (now (log .exit)) ≡ lineTaken d x (on w (now (log .entry))) ⌝ }
+{
+    let mut t = w;
+    let links = d.links;
+    let end = links.count;
+    let mut next = 0;
+    while next < end {
+        let l = next;
+        next += 1;
+        if hears(links.classes[l], links.subjects[l], links.transitions[l], x) {
+            t = try_link(d, t, &mut *log, l, links.guards[l]);
+        }
+    }
+    t
+}
+
+// The lines of the log are taken in order, until none is left.
+pub fn run_chain(d: Document, w: Work, log: &mut [u8]) -> Work
+    requires { ⌜ Sound d ⌝ }
+    ensures { λ r. ⌜ on r (now (log .exit)) ≡ chained d (on w (now (log .entry))) ⌝ }
+{
+    let mut t = w;
+    let room = log.len() / 4;
+    let mut next = 0;
+    while next < room {
+        let k = next;
+        let at = t.at;
+        if at <= k {
+            return t;
+        }
+        next += 1;
+        let x = events::log::line_at(&*log, at, k);
+        t = take_line(d, t, &mut *log, x);
+    }
+    t
+}

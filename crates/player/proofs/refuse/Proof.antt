@@ -1,0 +1,18 @@
+-- `player::refuse` meets its contract. Assumes nothing.
+use Rattle.machine.specs.Operations.{callRefused}
+use Rattle.events.specs.LogSlice.{logOf-none}
+use borrow.Author.Needs.{needs}
+use Rattle.player.proofs.refuse.Statement.{statement}
+use Rattle.player.proofs.refuse.Tie as tie
+
+pub refuse-spec : {M : Type 1} → statement M
+unfolding callRefused
+refuse-spec =
+    tie.close
+    (tie.spec
+    (λ c κs. search needs)  -- clear-requires
+    (λ c. search needs)  -- same-length
+    (λ c.
+    let the-clear = c .before .before .clear in
+    rw (the-clear .ensures, logOf-none))  -- returns
+    )

@@ -1,0 +1,27 @@
+-- `probe::fields::write_bytes` meets its contract. Assumes nothing.
+use Prim.Native.Nat.{_-_, _≤_}
+use lib.ListN.{length}
+use borrow.Author.Needs.{needs}
+use Rattle.probe.proofs.fields.write_bytes.Statement.{statement}
+use Rattle.probe.proofs.fields.write_bytes.Tie as tie
+
+abbrev Inv-loop : tie.InvT-loop
+Inv-loop out₀ at table place₀ next₀ out place next = next ≤ length table
+
+abbrev μ-loop : tie.MeasureT-loop
+μ-loop out₀ at table place₀ next₀ out place next = length table - next
+
+pub write-bytes-spec : {M : Type 1} → statement M
+write-bytes-spec =
+    tie.close
+    (tie.spec
+    Inv-loop μ-loop
+    (λ c. search needs)  -- loop-holds
+    (λ c. search needs)  -- add-next
+    (λ c. search needs)  -- shared-slice-read-write-byte
+    (λ c κs. search needs)  -- write-byte-requires
+    (λ c κs. search needs)  -- wrapping-add-usize-requires
+    (λ c. search needs)  -- loop-less
+    (λ c. search needs)  -- loop-again
+    (λ c. search needs)  -- returns
+    )

@@ -1,0 +1,29 @@
+-- `probe::fields::write_u16s` meets its contract. Assumes nothing.
+use Prim.Native.Nat.{_-_, _≤_}
+use lib.ListN.{length}
+use borrow.Author.Needs.{needs}
+use Rattle.probe.proofs.fields.write_u16s.Statement.{statement}
+use Rattle.probe.proofs.fields.write_u16s.Tie as tie
+
+abbrev Inv-loop : tie.InvT-loop
+Inv-loop out₀ at table place₀ next₀ out place next = next ≤ length table
+
+abbrev μ-loop : tie.MeasureT-loop
+μ-loop out₀ at table place₀ next₀ out place next = length table - next
+
+pub write-u16s-spec : {M : Type 1} → statement M
+write-u16s-spec =
+    tie.close
+    (tie.spec
+    Inv-loop μ-loop
+    (λ c. search needs)  -- loop-holds
+    (λ c. search needs)  -- add-next
+    (λ c. search needs)  -- mul-wide-u16
+    (λ c. search needs)  -- shared-slice-read-wide-u16
+    (λ c κs. search needs)  -- wide-u16-requires
+    (λ c κs. search needs)  -- write-number-requires
+    (λ c κs. search needs)  -- wrapping-add-usize-requires
+    (λ c. search needs)  -- loop-less
+    (λ c. search needs)  -- loop-again
+    (λ c. search needs)  -- returns
+    )

@@ -1,0 +1,173 @@
+//! Generated runs with fixed seeds, each told so that it can be run again.
+
+use second_engine::coverage::Coverage;
+use second_engine::generate::{self, Generated};
+use second_engine::random::Random;
+use second_engine::{Call, Fault, Probe, WrittenSession};
+
+use crate::compare::{call_on_written, hex, read_of_written, Both, Difference};
+use crate::flat::{bytes_of, session_of, SESSION_SIZE};
+
+/// How many times as many runs as usual: the variable COMPARISON_RUNS.
+pub fn times() -> u64 {
+    let runs = std::env::var("COMPARISON_RUNS");
+    runs.map_or(1, |runs| runs.parse().expect("COMPARISON_RUNS is a number"))
+}
+
+/// What was compared.
+#[derive(Debug, Default, Clone, Copy)]
+pub struct Count {
+    pub documents: usize,
+    pub loaded: usize,
+    pub calls: usize,
+    pub accepted: usize,
+    pub reads: usize,
+    pub broken: usize,
+}
+
+/// The run so far, for the message of a difference.
+#[derive(Default)]
+pub struct Told {
+    pub seed: u64,
+    pub document: Vec<u8>,
+    /// A session that somebody wrote down, in place of the document's.
+    pub session: Option<Vec<u8>>,
+    pub calls: Vec<(Call, usize)>,
+}
+
+impl Told {
+    pub fn with(&self, difference: Difference) -> Difference {
+        let mut told = format!("seed {}\ndocument {}\n", self.seed, hex(&self.document));
+        if let Some(session) = &self.session {
+            told += &format!("session {}\n", hex(session));
+        }
+        for (call, log_length) in &self.calls {
+            told += &format!("call {} log length {log_length}\n", hex(&call.bytes()));
+        }
+        told + &difference
+    }
+}
+
+/// A document, a list of calls and reads between them; with a fault planted in the second engine,
+/// a difference is to be expected.
+pub fn run(
+    seed: u64,
+    fault: Option<Fault>,
+    count: &mut Count,
+    coverage: &mut Coverage,
+) -> Result<(), Difference> {
+    let mut random = Random::new(seed);
+    let document = generate::document(&mut random);
+    let mut told = Told { seed, document: document.bytes.clone(), ..Told::default() };
+    run_document(&mut random, &document, fault, &mut told, count, coverage)
+        .map_err(|difference| told.with(difference))
+}
+
+fn run_document(
+    random: &mut Random,
+    document: &Generated,
+    fault: Option<Fault>,
+    told: &mut Told,
+    count: &mut Count,
+    coverage: &mut Coverage,
+) -> Result<(), Difference> {
+    coverage.meet_document(&document.bytes);
+    count.documents += 1;
+    let Ok(mut both) = Both::load(&document.bytes)? else {
+        return Ok(());
+    };
+    count.loaded += 1;
+    for call in generate::calls(random, document, 30) {
+        let mut probe = Probe { fault, ..Probe::default() };
+        let log_length = generate::log_length(random);
+        told.calls.push((call, log_length));
+        let (answer, log) = both.call(call, log_length, &mut probe)?;
+        count.calls += 1;
+        count.accepted += usize::from(answer.is_ok());
+        coverage.meet_call(both.second.document(), call, answer, &log, &probe);
+        for _ in 0..3 {
+            let (class, id) = (random.likely_byte(), random.likely_byte());
+            coverage.meet_read(class, both.read(class, id)?);
+            count.reads += 1;
+        }
+    }
+    Ok(())
+}
+
+/// The sessions of a generated document before each of its calls, with the call that comes next.
+/// A difference on the way ends the test.
+pub fn sessions(seed: u64, most: usize) -> Vec<(Vec<u8>, Call)> {
+    let mut random = Random::new(seed);
+    let document = generate::document(&mut random);
+    let mut told = Told { seed, document: document.bytes.clone(), ..Told::default() };
+    let loaded = Both::load(&document.bytes);
+    let Ok(mut both) = loaded.unwrap_or_else(|difference| panic!("{}", told.with(difference)))
+    else {
+        return Vec::new();
+    };
+    let mut sessions = Vec::new();
+    for call in generate::calls(&mut random, &document, most) {
+        sessions.push((both.bytes.clone(), call));
+        told.calls.push((call, 4_096));
+        let called = both.call(call, 4_096, &mut Probe::default());
+        if let Err(difference) = called {
+            panic!("{}", told.with(difference));
+        }
+    }
+    sessions
+}
+
+/// Calls and reads on the session as written down by somebody, whole or broken.
+pub fn run_written(
+    random: &mut Random,
+    seed: u64,
+    session: Vec<u8>,
+    calls: usize,
+    count: &mut Count,
+) -> Result<(), Difference> {
+    let mut told = Told { seed, session: Some(session.clone()), ..Told::default() };
+    let mut bytes = session;
+    for _ in 0..calls {
+        let written = session_of(&bytes);
+        let (class, id) = (random.between(0, 4) as u8, random.likely_byte());
+        let reading = read_of_written(&bytes, &written, class, id);
+        let reading = reading.map_err(|difference| told.with(difference))?;
+        count.reads += 1;
+        count.broken += usize::from(reading == Err(13));
+        let call =
+            generate::call(random, written.node_count.min(64), written.property_count.min(32));
+        let log_length = generate::log_length(random).min(4_096);
+        told.calls.push((call, log_length));
+        let called = call_on_written(&bytes, call, log_length);
+        let (answer, after) = called.map_err(|difference| told.with(difference))?;
+        count.calls += 1;
+        count.accepted += usize::from(answer.is_ok());
+        bytes = after;
+    }
+    Ok(())
+}
+
+/// A session changed in some way: its fields, its bytes, or parts of it from another session.
+pub fn changed(random: &mut Random, session: &[u8], other: &[u8]) -> Vec<u8> {
+    let mut bytes = session.to_vec();
+    for _ in 0..random.pick(&[1, 1, 1, 2, 5]) {
+        match random.below(4) {
+            0 => {
+                let mut written: WrittenSession = session_of(&bytes);
+                generate::change_field(random, &mut written);
+                bytes = bytes_of(&written);
+            }
+            1 => bytes[random.below(SESSION_SIZE)] = random.likely_byte(),
+            2 => {
+                let place = random.below(SESSION_SIZE);
+                bytes[place] = bytes[place].wrapping_add(random.pick(&[1, 255, 128]));
+            }
+            _ => {
+                let place = random.below(SESSION_SIZE);
+                let end = (place + random.between(1, 200)).min(SESSION_SIZE);
+                bytes[place..end].copy_from_slice(&other[place..end]);
+            }
+        }
+    }
+    bytes
+}

@@ -1,0 +1,631 @@
+//! Seeded documents, damaged documents, scripts, log lengths and broken sessions.
+//!
+//! The generator keeps its own account of what a valid document may hold and asks the engine
+//! for nothing.
+
+use crate::call::Call;
+use crate::document::{
+    MOST_ACTIONS, MOST_ANCHORS, MOST_BINDS, MOST_LINKS, MOST_NODES, MOST_PORTS, MOST_PROPERTIES,
+    MOST_RULES, NO_ID,
+};
+use crate::random::Random;
+use crate::record::Record;
+use crate::written::{WrittenAction, WrittenSession};
+
+const CONTEXT: u8 = 0;
+const MEDIA: u8 = 1;
+const SWITCH: u8 = 2;
+
+/// A generated document: its records, and whether the generator means it to load.
+pub struct Generated {
+    pub bytes: Vec<u8>,
+    pub is_valid: bool,
+    /// How many nodes and properties it has, for the targets of scripts.
+    pub nodes: usize,
+    pub properties: usize,
+}
+
+/// How many entries a document is to get in each table, as far as there is room.
+struct Shape {
+    limit: u8,
+    nodes: usize,
+    anchors: usize,
+    properties: usize,
+    rules: usize,
+    binds: usize,
+    ports: usize,
+    links: usize,
+    actions: usize,
+    /// Composites nest in the latest one.
+    is_deep: bool,
+    /// No switches, so that every node but the first can have a port.
+    has_contexts_only: bool,
+}
+
+impl Shape {
+    fn small(random: &mut Random) -> Self {
+        Shape {
+            limit: random.pick(&[1, 2, 3, 5, 10, 20, 60, 255]),
+            nodes: if random.one_in(16) { 1 } else { random.between(2, 12) },
+            anchors: random.between(0, 10),
+            properties: random.between(0, 3),
+            rules: random.between(0, 8),
+            binds: random.between(0, 8),
+            ports: random.between(0, 10),
+            links: random.between(0, 16),
+            actions: random.between(0, 30),
+            is_deep: false,
+            has_contexts_only: false,
+        }
+    }
+
+    fn deep(random: &mut Random) -> Self {
+        Shape {
+            nodes: random.between(20, MOST_NODES),
+            binds: MOST_BINDS,
+            ports: MOST_PORTS,
+            is_deep: true,
+            ..Shape::small(random)
+        }
+    }
+
+    fn full(random: &mut Random) -> Self {
+        Shape {
+            limit: random.pick(&[1, 5, 30, 255]),
+            nodes: MOST_NODES,
+            anchors: MOST_ANCHORS,
+            properties: MOST_PROPERTIES,
+            rules: MOST_RULES,
+            binds: MOST_BINDS,
+            ports: MOST_PORTS,
+            links: MOST_LINKS,
+            actions: MOST_LINKS * MOST_ACTIONS,
+            is_deep: random.one_in(2),
+            has_contexts_only: random.one_in(3),
+        }
+    }
+}
+
+#[derive(Clone, Copy)]
+struct DraftNode {
+    node_type: u8,
+    parent: u8,
+    duration: u16,
+}
+
+/// A valid document in the making.
+#[derive(Default)]
+struct Draft {
+    records: Vec<Record>,
+    nodes: Vec<DraftNode>,
+    anchors: usize,
+    properties: usize,
+    rules: usize,
+    binds: usize,
+    switches_with_default: Vec<u8>,
+    ports: Vec<(u8, u8)>,
+    links: usize,
+    actions_of_latest_link: usize,
+}
+
+impl Draft {
+    fn of_shape(random: &mut Random, shape: &Shape) -> Draft {
+        let mut draft = Draft::default();
+        draft.records.push(Record::Head { limit: shape.limit });
+        draft.add_node(random, shape);
+        let mut wanted = [
+            shape.nodes - 1,
+            shape.anchors,
+            shape.properties,
+            shape.rules,
+            shape.binds,
+            shape.ports,
+            shape.links,
+            shape.actions,
+        ];
+        // Records of different tables stand between each other, more nodes to the front.
+        for _ in 0..4_000 {
+            let table = if random.one_in(3) { 0 } else { random.below(wanted.len()) };
+            if wanted[table] == 0 {
+                continue;
+            }
+            let is_added = match table {
+                0 => draft.add_node(random, shape),
+                1 => draft.add_anchor(random),
+                2 => draft.add_property(random),
+                3 => draft.add_rule(random),
+                4 => draft.add_bind(random),
+                5 => draft.add_port(random),
+                6 => draft.add_link(random),
+                _ => draft.add_action(random),
+            };
+            if is_added {
+                wanted[table] -= 1;
+            }
+        }
+        if random.one_in(4) {
+            draft.add_counting_links(random);
+        }
+        draft
+    }
+
+    fn ids_of_type(&self, is_type: impl Fn(u8) -> bool) -> Vec<u8> {
+        (0..self.nodes.len() as u8)
+            .filter(|&id| is_type(self.nodes[usize::from(id)].node_type))
+            .collect()
+    }
+
+    /// The pairs of parent and child whose parent has the type.
+    fn pairs_under(&self, parent_type: u8) -> Vec<(u8, u8)> {
+        (1..self.nodes.len() as u8)
+            .map(|child| (self.nodes[usize::from(child)].parent, child))
+            .filter(|&(parent, _)| self.nodes[usize::from(parent)].node_type == parent_type)
+            .collect()
+    }
+
+    fn add_node(&mut self, random: &mut Random, shape: &Shape) -> bool {
+        let node = if self.nodes.is_empty() {
+            DraftNode { node_type: CONTEXT, parent: NO_ID, duration: 0 }
+        } else {
+            let composites = self.ids_of_type(|node_type| node_type != MEDIA);
+            let latest = composites[composites.len() - 1];
+            let parent = match shape.is_deep && !random.one_in(8) {
+                true => latest,
+                false => random.pick(&composites),
+            };
+            let node_type = match (shape.is_deep, random.below(10)) {
+                (true, 0..=6) | (false, 0..=2) => random.pick(&[CONTEXT, SWITCH]),
+                _ => MEDIA,
+            };
+            let node_type = match (shape.has_contexts_only, node_type) {
+                (true, SWITCH) => CONTEXT,
+                _ => node_type,
+            };
+            let duration = match node_type {
+                MEDIA => random.pick(&[0, 0, 1, 2, 3, 3, 4, 5, 6, 65_535]),
+                _ => 0,
+            };
+            DraftNode { node_type, parent, duration }
+        };
+        let DraftNode { node_type, parent, duration } = node;
+        self.records.push(Record::Node { node_type, parent, duration });
+        self.nodes.push(node);
+        // Most children get their port or bind at once, so that starts reach far down.
+        let without = if shape.is_deep { 32 } else { 5 };
+        if self.nodes.len() > 1 && !random.one_in(without) {
+            let child = self.nodes.len() as u8 - 1;
+            match self.nodes[usize::from(parent)].node_type {
+                SWITCH if self.binds < MOST_BINDS => self.bind(random, parent, child),
+                CONTEXT => self.port(parent, child),
+                _ => {}
+            }
+        }
+        true
+    }
+
+    fn add_anchor(&mut self, random: &mut Random) -> bool {
+        let Some(media) = random.pick_any(&self.ids_of_type(|node_type| node_type == MEDIA)) else {
+            return false;
+        };
+        let duration = usize::from(self.nodes[usize::from(media)].duration);
+        let last = if duration == 0 { 65_535 } else { duration };
+        let (begin, end) = match random.below(8) {
+            0 => (last - 1, last),
+            1 => (0, last),
+            _ => {
+                let begin = random.below(last.min(4));
+                (begin, random.between(begin + 1, last.min(begin + 4)))
+            }
+        };
+        self.anchors += 1;
+        self.records.push(Record::Anchor { media, begin: begin as u16, end: end as u16 });
+        true
+    }
+
+    fn add_property(&mut self, random: &mut Random) -> bool {
+        self.properties += 1;
+        self.records.push(Record::Property { value: random.value() });
+        true
+    }
+
+    fn add_rule(&mut self, random: &mut Random) -> bool {
+        if self.rules > 0 && random.one_in(3) {
+            self.records.push(Record::CompositeRule {
+                operator: random.below(2) as u8,
+                left: random.below(self.rules) as u8,
+                right: random.below(self.rules) as u8,
+            });
+        } else if self.properties > 0 {
+            self.records.push(Record::Rule {
+                property: random.below(self.properties) as u8,
+                comparator: random.below(6) as u8,
+                value: random.value(),
+            });
+        } else {
+            return false;
+        }
+        self.rules += 1;
+        true
+    }
+
+    fn add_bind(&mut self, random: &mut Random) -> bool {
+        let Some((switch, child)) = random.pick_any(&self.pairs_under(SWITCH)) else {
+            return false;
+        };
+        if self.binds == MOST_BINDS {
+            return false;
+        }
+        let binds = self.binds;
+        self.bind(random, switch, child);
+        self.binds > binds
+    }
+
+    /// Adds a bind with a rule, or as the default if the switch has none yet.
+    fn bind(&mut self, random: &mut Random, switch: u8, child: u8) {
+        let may_be_default = !self.switches_with_default.contains(&switch);
+        let rule = if may_be_default && (self.rules == 0 || random.one_in(2)) {
+            self.switches_with_default.push(switch);
+            NO_ID
+        } else if self.rules > 0 {
+            random.below(self.rules) as u8
+        } else {
+            return;
+        };
+        self.binds += 1;
+        self.records.push(Record::Bind { switch, child, rule });
+    }
+
+    fn add_port(&mut self, random: &mut Random) -> bool {
+        let mut pairs = self.pairs_under(CONTEXT);
+        pairs.retain(|pair| !self.ports.contains(pair));
+        let Some((context, child)) = random.pick_any(&pairs) else {
+            return false;
+        };
+        self.port(context, child);
+        true
+    }
+
+    fn port(&mut self, context: u8, child: u8) {
+        self.ports.push((context, child));
+        self.records.push(Record::Port { context, child });
+    }
+
+    fn add_link(&mut self, random: &mut Random) -> bool {
+        let class = random.pick(&[1, 1, 1, 2, 2, 3, 3, 4]);
+        let subjects = match class {
+            1 => self.nodes.len(),
+            2 => self.anchors,
+            3 => self.properties,
+            _ => 3,
+        };
+        if subjects == 0 {
+            return false;
+        }
+        let guard = match self.rules > 0 && random.one_in(2) {
+            true => random.below(self.rules) as u8,
+            false => NO_ID,
+        };
+        let owner = random.pick(&self.ids_of_type(|node_type| node_type == CONTEXT));
+        let subject = random.below(subjects) as u8;
+        let transition = match class {
+            1 | 2 => random.pick(&[1, 1, 2, 2, 3, 4, 4, 5, 5]),
+            3 => random.pick(&[1, 2]),
+            _ => 1,
+        };
+        self.links += 1;
+        self.actions_of_latest_link = 0;
+        self.records.push(Record::Link { owner, class, subject, transition, guard });
+        // Some links set off themselves.
+        if class == 3 && random.one_in(2) {
+            let (target, value) = (subject, random.value());
+            self.records.push(Record::Action { action: 6, target, value });
+            self.actions_of_latest_link = 1;
+        }
+        true
+    }
+
+    fn add_action(&mut self, random: &mut Random) -> bool {
+        if self.links == 0 || self.actions_of_latest_link == MOST_ACTIONS {
+            return false;
+        }
+        let record = if self.properties > 0 && random.one_in(3) {
+            let target = random.below(self.properties) as u8;
+            Record::Action { action: 6, target, value: random.value() }
+        } else {
+            let action = random.pick(&[1, 1, 2, 3, 4, 5]);
+            Record::Action { action, target: random.below(self.nodes.len()) as u8, value: 0 }
+        };
+        self.actions_of_latest_link += 1;
+        self.records.push(record);
+        true
+    }
+
+    /// Adds a link that sets a property of its own to 0 by a key, and links that count it up
+    /// from there, one firing for each value, in either order of ids.
+    fn add_counting_links(&mut self, random: &mut Random) {
+        let length = random.between(2, 16);
+        if self.properties == MOST_PROPERTIES
+            || self.rules + length > MOST_RULES
+            || self.links + length >= MOST_LINKS
+        {
+            return;
+        }
+        let property = self.properties as u8;
+        self.add_property(random);
+        self.records.push(Record::Link {
+            owner: 0,
+            class: 4,
+            subject: random.below(3) as u8,
+            transition: 1,
+            guard: NO_ID,
+        });
+        self.records.push(Record::Action { action: 6, target: property, value: 0 });
+        self.links += 1;
+        let is_upward = random.one_in(2);
+        for step in 0..length {
+            let value = if is_upward { step } else { length - 1 - step } as i32;
+            self.records.push(Record::Rule { property, comparator: 0, value });
+            self.records.push(Record::Link {
+                owner: 0,
+                class: 3,
+                subject: property,
+                transition: 2,
+                guard: self.rules as u8,
+            });
+            self.records.push(Record::Action { action: 6, target: property, value: value + 1 });
+            self.rules += 1;
+            self.links += 1;
+            self.actions_of_latest_link = 1;
+            if random.one_in(4) {
+                self.add_action(random);
+            }
+        }
+    }
+
+    /// Fills one table and adds one entry more. The port table cannot be filled.
+    fn overfill(&mut self, random: &mut Random, shape: &Shape) {
+        match random.below(7) {
+            0 => while self.nodes.len() <= MOST_NODES && self.add_node(random, shape) {},
+            1 => {
+                self.records.push(Record::Node { node_type: MEDIA, parent: 0, duration: 0 });
+                self.nodes.push(DraftNode { node_type: MEDIA, parent: 0, duration: 0 });
+                while self.anchors <= MOST_ANCHORS && self.add_anchor(random) {}
+            }
+            2 => while self.properties <= MOST_PROPERTIES && self.add_property(random) {},
+            3 => {
+                self.add_property(random);
+                while self.rules <= MOST_RULES && self.add_rule(random) {}
+            }
+            4 => self.overfill_binds(random),
+            5 => {
+                while self.links <= MOST_LINKS {
+                    self.add_link(random);
+                }
+            }
+            _ => {
+                while !self.add_link(random) {}
+                while self.add_action(random) {}
+                self.records.push(Record::Action { action: 1, target: 0, value: 0 });
+            }
+        }
+    }
+
+    fn overfill_binds(&mut self, random: &mut Random) {
+        let switch = self.nodes.len() as u8;
+        self.records.push(Record::Node { node_type: SWITCH, parent: 0, duration: 0 });
+        self.records.push(Record::Node { node_type: MEDIA, parent: switch, duration: 0 });
+        if self.rules == 0 {
+            if self.properties == 0 {
+                self.add_property(random);
+            }
+            self.add_rule(random);
+        }
+        while self.binds <= MOST_BINDS {
+            self.binds += 1;
+            self.records.push(Record::Bind { switch, child: switch + 1, rule: 0 });
+        }
+    }
+}
+
+/// A document of any shape, about one in four of them damaged or with one entry too many.
+pub fn document(random: &mut Random) -> Generated {
+    let shape = match random.below(20) {
+        0..=13 => Shape::small(random),
+        14..=17 => Shape::deep(random),
+        _ => Shape::full(random),
+    };
+    let mut draft = Draft::of_shape(random, &shape);
+    let mut is_valid = true;
+    if random.one_in(12) {
+        let shape = Shape::small(random);
+        draft = Draft::of_shape(random, &shape);
+        draft.overfill(random, &shape);
+        is_valid = false;
+    }
+    let bytes = if random.one_in(5) {
+        is_valid = false;
+        damaged(random, &draft.records)
+    } else {
+        draft.records.iter().flat_map(Record::bytes).collect()
+    };
+    Generated { bytes, is_valid, nodes: draft.nodes.len(), properties: draft.properties }
+}
+
+/// The document's bytes with some damage, which may leave them valid.
+fn damaged(random: &mut Random, records: &[Record]) -> Vec<u8> {
+    let mut records: Vec<Vec<u8>> = records.iter().map(Record::bytes).collect();
+    for _ in 0..random.between(1, 2) {
+        let place = random.below(records.len());
+        match random.below(8) {
+            0 => {
+                let record = records.remove(place);
+                records.insert(random.below(records.len() + 1), record);
+            }
+            1 => records.insert(random.below(records.len() + 1), records[place].clone()),
+            2 => {
+                records.remove(place);
+            }
+            3 => {
+                let kept = random.below(records[place].len() + 1);
+                records[place].truncate(kept);
+            }
+            4 => {
+                let mut record = vec![random.below(11) as u8];
+                record.extend((0..random.below(7)).map(|_| random.likely_byte()));
+                records.insert(place, record);
+            }
+            _ => {
+                if let Some(at) = records[place].len().checked_sub(1) {
+                    let at = random.between(0, at);
+                    records[place][at] = random.likely_byte();
+                }
+            }
+        }
+        if records.is_empty() {
+            break;
+        }
+    }
+    let mut bytes = records.concat();
+    if random.one_in(4) {
+        bytes.truncate(random.below(bytes.len() + 1));
+    }
+    bytes
+}
+
+/// Bytes by themselves, each likely to be a kind or an id.
+pub fn meaningless_bytes(random: &mut Random) -> Vec<u8> {
+    let length = random.below(30);
+    (0..length).map(|_| random.likely_byte()).collect()
+}
+
+/// One call, at times with bad arguments.
+pub fn call(random: &mut Random, nodes: usize, properties: usize) -> Call {
+    match random.below(16) {
+        0 => Call::Key { code: random.likely_byte() },
+        1 | 2 => Call::Key { code: random.below(3) as u8 },
+        3..=6 => Call::Tick,
+        7 => Call::Command {
+            action: random.likely_byte(),
+            target: random.likely_byte(),
+            value: if random.one_in(2) { 0 } else { random.value() },
+        },
+        8 if properties > 0 => {
+            let target = random.below(properties) as u8;
+            Call::Command { action: 6, target, value: random.value() }
+        }
+        9 => Call::Command { action: 1, target: 0, value: 0 },
+        _ => {
+            let action = random.pick(&[1, 1, 1, 2, 3, 4, 4, 5, 5]);
+            Call::Command { action, target: random.below(nodes.max(1)) as u8, value: 0 }
+        }
+    }
+}
+
+/// A list of calls that begins with a start of node 0 and resumes much of what it pauses.
+pub fn calls(random: &mut Random, document: &Generated, most: usize) -> Vec<Call> {
+    let mut calls = vec![Call::Command { action: 1, target: 0, value: 0 }];
+    for _ in 0..random.below(most) {
+        let call = call(random, document.nodes, document.properties);
+        calls.push(call);
+        if let Call::Command { action: 4, target, value: 0 } = call {
+            if random.one_in(2) {
+                calls.push(Call::Tick);
+            }
+            if random.one_in(2) {
+                calls.push(Call::Command { action: 5, target, value: 0 });
+            }
+        }
+    }
+    calls
+}
+
+/// A script of the calls; one in five has an unknown kind in it or is cut.
+pub fn script(random: &mut Random, calls: &[Call]) -> Vec<u8> {
+    let mut records: Vec<Vec<u8>> = calls.iter().map(|call| call.bytes()).collect();
+    if random.one_in(10) {
+        let kind = random.pick(&[0, 4, 5, 255]);
+        records.insert(random.below(records.len() + 1), vec![kind]);
+    }
+    let mut bytes = records.concat();
+    if random.one_in(10) {
+        bytes.truncate(random.below(bytes.len() + 1));
+    }
+    bytes
+}
+
+/// A length for a log slice: often ample, often scarce, at times no whole number of lines.
+pub fn log_length(random: &mut Random) -> usize {
+    match random.below(10) {
+        0 => 65_536,
+        1..=6 => 2_048,
+        7 => random.below(9),
+        8 => random.below(64),
+        _ => random.below(1_024),
+    }
+}
+
+/// Writes a value into one field of a session, which may be broken by it.
+pub fn change_field(random: &mut Random, session: &mut WrittenSession) {
+    let byte = random.likely_byte();
+    let word = random.pick(&[0, 1, 2, 3, 4, 5, 6, 1_000, 65_534, 65_535]);
+    let number = random.pick(&[0, 1, 2, 1_000_000, u32::MAX]);
+    let value = random.value();
+    // A place inside the table, or now and then anywhere.
+    let mut place = |count: usize, most: usize| match random.one_in(4) || count == 0 {
+        true => random.below(most),
+        false => random.below(count.min(most)),
+    };
+    let node = place(session.node_count, MOST_NODES);
+    let anchor = place(session.anchor_count, MOST_ANCHORS);
+    let property = place(session.property_count, MOST_PROPERTIES);
+    let rule = place(session.rule_count, MOST_RULES);
+    let bind = place(session.bind_count, MOST_BINDS);
+    let port = place(session.port_count, MOST_PORTS);
+    let link = place(session.link_count, MOST_LINKS);
+    let slot = place(session.links[link].action_count, MOST_ACTIONS);
+    let count = random.pick(&[0, 1, 2, 8, 9, 32, 33, 64, 65, 128, 129, 255]);
+    let action: &mut WrittenAction = &mut session.links[link].actions[slot];
+    match random.below(44) {
+        0 => session.limit = byte,
+        1 => session.node_count = count,
+        2 => session.anchor_count = count,
+        3 => session.property_count = count,
+        4 => session.rule_count = count,
+        5 => session.bind_count = count,
+        6 => session.port_count = count,
+        7 => session.link_count = count,
+        8 => session.nodes[node].node_type = byte,
+        9 => session.nodes[node].parent = byte,
+        10 => session.nodes[node].duration = word,
+        11 | 12 => session.nodes[node].state = byte % 4,
+        13 | 14 => session.nodes[node].clock = word,
+        15 => session.nodes[node].count = number,
+        16 => session.anchors[anchor].media = byte,
+        17 => session.anchors[anchor].begin = word,
+        18 => session.anchors[anchor].end = word,
+        19 | 20 => session.anchors[anchor].state = byte % 4,
+        21 => session.anchors[anchor].count = number,
+        22 => session.properties[property].value = value,
+        23 => session.properties[property].count = number,
+        24 => session.rules[rule].kind = byte,
+        25 => session.rules[rule].property = byte,
+        26 => session.rules[rule].comparator = byte,
+        27 => session.rules[rule].value = value,
+        28 => session.rules[rule].operator = byte,
+        29 => session.rules[rule].left = byte,
+        30 => session.rules[rule].right = byte,
+        31 => session.binds[bind].switch = byte,
+        32 => session.binds[bind].child = byte,
+        33 => session.binds[bind].rule = byte,
+        34 => session.ports[port].context = byte,
+        35 => session.ports[port].child = byte,
+        36 => session.links[link].owner = byte,
+        37 => session.links[link].class = byte,
+        38 => session.links[link].subject = byte,
+        39 => session.links[link].transition = byte,
+        40 => session.links[link].guard = byte,
+        41 => session.links[link].action_count = count,
+        42 => (action.action, action.target) = (byte, byte),
+        _ => action.value = value,
+    }
+}

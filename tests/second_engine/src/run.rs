@@ -1,0 +1,302 @@
+//! One call on a copy of the session: actions, settling, the tick and the chain of links.
+//!
+//! Readings of 01:
+//! - Within an action a composite keeps the state it had before, until the settling.
+//! - The tick's settling is no settling of an abort: composites that go to sleep log stops.
+//! - A sleeping composite cannot become paused, for no action takes a media from sleeping to
+//!   paused; 01 names no line for it.
+//! - A firing is counted when its line has been logged.
+
+use std::rc::Rc;
+
+use crate::call::Call;
+use crate::document::{Document, NodeKind};
+use crate::event::{Action, Line, NodeAction, State, Subject, Transition};
+use crate::probe::{Fault, Probe};
+use crate::refusal::{ensure, Refusal};
+use crate::session::Session;
+
+pub struct Run<'a> {
+    document: Rc<Document>,
+    session: Session,
+    /// The number of lines that fit in the log slice.
+    room: usize,
+    lines: Vec<Line>,
+    /// The number of lines whose links have been looked at.
+    taken: usize,
+    firings: usize,
+    probe: &'a mut Probe,
+    /// The properties' values at each line, kept for `Fault::GuardReadWhenLogged` alone.
+    values_when_logged: Vec<Vec<i32>>,
+}
+
+/// What an accepted call leaves.
+pub struct Accepted {
+    pub session: Session,
+    pub lines: Vec<Line>,
+    pub firings: usize,
+}
+
+impl<'a> Run<'a> {
+    pub fn of(session: &Session, room: usize, probe: &'a mut Probe) -> Self {
+        Run {
+            document: Rc::clone(&session.document),
+            session: session.clone(),
+            room,
+            lines: Vec::new(),
+            taken: 0,
+            firings: 0,
+            probe,
+            values_when_logged: Vec::new(),
+        }
+    }
+
+    pub fn perform(mut self, call: Call) -> Result<Accepted, Refusal> {
+        match call {
+            Call::Command { action, target, value } => {
+                let action = Action::read(action, target, value).ok_or(Refusal::WrongArgument)?;
+                ensure(self.document.has_target(action), Refusal::NoSuchTarget)?;
+                self.act(action)?;
+            }
+            Call::Key { code } => self.log(Subject::Key(code), Transition::Starts)?,
+            Call::Tick => self.tick()?,
+        }
+        self.fire_links()?;
+        Ok(Accepted { session: self.session, lines: self.lines, firings: self.firings })
+    }
+
+    /// Runs one action and settles.
+    fn act(&mut self, action: Action) -> Result<(), Refusal> {
+        let mut aborted = None;
+        match action {
+            Action::Set { property, value } => self.set(property, value)?,
+            Action::OnNode { action: NodeAction::Start, node } => self.start(node)?,
+            Action::OnNode { action, node } => {
+                aborted = (action == NodeAction::Abort).then_some(node);
+                for media in self.document.media_of(node) {
+                    self.change_media(media, action)?;
+                    if self.has(Fault::SettleAfterEachMedia) {
+                        self.settle(aborted)?;
+                    }
+                }
+            }
+        }
+        self.settle(aborted)
+    }
+
+    fn set(&mut self, property: usize, value: i32) -> Result<(), Refusal> {
+        self.log(Subject::Property(property), Transition::Starts)?;
+        let event = &mut self.session.properties[property];
+        event.value = value;
+        event.count = event.count.wrapping_add(1);
+        self.log(Subject::Property(property), Transition::Stops)
+    }
+
+    fn start(&mut self, node: usize) -> Result<(), Refusal> {
+        if self.session.nodes[node].state.is_awake() {
+            return Ok(());
+        }
+        let document = Rc::clone(&self.document);
+        match document.nodes[node].kind {
+            NodeKind::Media { .. } => self.change_media(node, NodeAction::Start),
+            NodeKind::Context => document
+                .ports
+                .iter()
+                .filter(|port| port.context == node)
+                .try_for_each(|port| self.start(port.child)),
+            NodeKind::Switch => match self.chosen_child(node) {
+                Some(child) => self.start(child),
+                None => Ok(()),
+            },
+        }
+    }
+
+    /// The child of the switch's first bind whose rule holds, else of its default.
+    fn chosen_child(&mut self, switch: usize) -> Option<usize> {
+        let document = Rc::clone(&self.document);
+        let mut default = None;
+        for bind in document.binds.iter().filter(|bind| bind.switch == switch) {
+            match bind.rule {
+                None => default = Some(bind.child),
+                Some(rule) if self.decide(rule, &self.session.values()) => return Some(bind.child),
+                Some(_) => {}
+            }
+        }
+        default
+    }
+
+    /// Takes a media and its anchors through an action, as far as it changes the media's state.
+    fn change_media(&mut self, media: usize, action: NodeAction) -> Result<(), Refusal> {
+        let Some((state, transition)) = self.session.nodes[media].state.after(action) else {
+            return Ok(());
+        };
+        let document = Rc::clone(&self.document);
+        let mut followers = document.nodes[media].anchors.clone();
+        followers.retain(|&anchor| match action {
+            NodeAction::Start => document.anchors[anchor].begin == 0,
+            _ => self.session.anchors[anchor].state.is_awake(),
+        });
+        if matches!(action, NodeAction::Start | NodeAction::Stop | NodeAction::Abort) {
+            self.session.nodes[media].clock = 0;
+        }
+        let media_first = matches!(action, NodeAction::Start | NodeAction::Resume);
+        if media_first {
+            self.enter_node(media, state, transition)?;
+        }
+        for anchor in followers {
+            self.enter_anchor(anchor, state, transition)?;
+        }
+        if !media_first {
+            self.enter_node(media, state, transition)?;
+        }
+        Ok(())
+    }
+
+    fn enter_node(
+        &mut self,
+        node: usize,
+        state: State,
+        transition: Transition,
+    ) -> Result<(), Refusal> {
+        let adds = self.adds_to_count(transition);
+        let event = &mut self.session.nodes[node];
+        event.state = state;
+        event.count = event.count.wrapping_add(adds);
+        self.log(Subject::Node(node), transition)
+    }
+
+    fn enter_anchor(
+        &mut self,
+        anchor: usize,
+        state: State,
+        transition: Transition,
+    ) -> Result<(), Refusal> {
+        let adds = self.adds_to_count(transition);
+        let event = &mut self.session.anchors[anchor];
+        event.state = state;
+        event.count = event.count.wrapping_add(adds);
+        self.log(Subject::Anchor(anchor), transition)
+    }
+
+    fn adds_to_count(&self, transition: Transition) -> u32 {
+        let counted = transition == Transition::Stops
+            || transition == Transition::Aborts && self.has(Fault::CountAborts);
+        u32::from(counted)
+    }
+
+    /// Gives each composite, by descending id, the state that its children give it. With an
+    /// aborted target, that target and the composites below it log aborts.
+    fn settle(&mut self, aborted: Option<usize>) -> Result<(), Refusal> {
+        for node in (0..self.document.nodes.len()).rev() {
+            if !self.document.nodes[node].is_composite() {
+                continue;
+            }
+            let old = self.session.nodes[node].state;
+            let new = self.session.state_from_children(node);
+            let transition = match (old, new) {
+                _ if old == new => continue,
+                (State::Sleeping, State::Occurring) => Transition::Starts,
+                (_, State::Occurring) => Transition::Resumes,
+                (_, State::Paused) => Transition::Pauses,
+                (_, State::Sleeping) => {
+                    match aborted.is_some_and(|target| self.document.is_within(node, target)) {
+                        true => Transition::Aborts,
+                        false => Transition::Stops,
+                    }
+                }
+            };
+            self.enter_node(node, new, transition)?;
+        }
+        Ok(())
+    }
+
+    fn tick(&mut self) -> Result<(), Refusal> {
+        for media in self.document.media_of(0) {
+            self.tick_media(media)?;
+            if self.has(Fault::LinksBeforeAllMediaTicked) {
+                self.settle(None)?;
+                self.fire_links()?;
+            }
+        }
+        self.settle(None)
+    }
+
+    fn tick_media(&mut self, media: usize) -> Result<(), Refusal> {
+        let event = &mut self.session.nodes[media];
+        if event.state != State::Occurring || event.clock == u16::MAX {
+            return Ok(());
+        }
+        event.clock += 1;
+        let clock = event.clock;
+        let document = Rc::clone(&self.document);
+        let node = &document.nodes[media];
+        let end_reached = if self.has(Fault::AnchorAwakeAtEnd) { clock - 1 } else { clock };
+        for &anchor in &node.anchors {
+            let is_awake = self.session.anchors[anchor].state.is_awake();
+            if is_awake && document.anchors[anchor].end == end_reached {
+                self.enter_anchor(anchor, State::Sleeping, Transition::Stops)?;
+            }
+        }
+        for &anchor in &node.anchors {
+            if document.anchors[anchor].begin == clock {
+                self.enter_anchor(anchor, State::Occurring, Transition::Starts)?;
+            }
+        }
+        if node.kind == (NodeKind::Media { duration: clock }) {
+            self.change_media(media, NodeAction::Stop)?;
+        }
+        Ok(())
+    }
+
+    /// Takes the lines not yet taken in order and fires the links that wait for them.
+    fn fire_links(&mut self) -> Result<(), Refusal> {
+        let document = Rc::clone(&self.document);
+        while let Some(&line) = self.lines.get(self.taken) {
+            for (id, link) in document.links.iter().enumerate() {
+                if link.matches(line) && self.guard_holds(link.guard) {
+                    ensure(self.firings < usize::from(document.limit), Refusal::FiringLimit)?;
+                    self.push_line(Line::Fired { link: id })?;
+                    self.firings += 1;
+                    link.actions.iter().try_for_each(|&action| self.act(action))?;
+                }
+            }
+            self.taken += 1;
+        }
+        Ok(())
+    }
+
+    fn guard_holds(&mut self, guard: Option<usize>) -> bool {
+        let Some(rule) = guard else {
+            return true;
+        };
+        let values = if self.has(Fault::GuardReadWhenLogged) {
+            self.values_when_logged[self.taken].clone()
+        } else {
+            self.session.values()
+        };
+        self.decide(rule, &values)
+    }
+
+    fn decide(&mut self, rule: usize, values: &[i32]) -> bool {
+        let holds = self.document.holds(rule, values);
+        self.probe.decided.push((rule, holds));
+        holds
+    }
+
+    fn log(&mut self, subject: Subject, transition: Transition) -> Result<(), Refusal> {
+        self.push_line(Line::Event { subject, transition })
+    }
+
+    fn push_line(&mut self, line: Line) -> Result<(), Refusal> {
+        ensure(self.lines.len() < self.room, Refusal::LogFull)?;
+        self.lines.push(line);
+        if self.has(Fault::GuardReadWhenLogged) {
+            self.values_when_logged.push(self.session.values());
+        }
+        Ok(())
+    }
+
+    fn has(&self, fault: Fault) -> bool {
+        self.probe.fault == Some(fault)
+    }
+}

@@ -20,7 +20,7 @@ pub mod written;
 
 pub use call::Call;
 pub use event::State;
-pub use printed::printed_run;
+pub use printed::{printed_run, printed_run_with};
 pub use probe::{Fault, Probe};
 pub use refusal::Refusal;
 pub use session::{load, Reading, Session};

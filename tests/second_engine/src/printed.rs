@@ -7,11 +7,17 @@
 
 use crate::call::Call;
 use crate::fields::Fields;
+use crate::probe::{Fault, Probe};
 use crate::session::load;
 
 pub const PRINTED_RUN_LOG_LENGTH: usize = 65_536;
 
 pub fn printed_run(doc: &[u8], script: &[u8]) -> String {
+    printed_run_with(doc, script, None)
+}
+
+/// What an engine prints in which a fault may be planted.
+pub fn printed_run_with(doc: &[u8], script: &[u8], fault: Option<Fault>) -> String {
     let mut session = match load(doc) {
         Ok(session) => session,
         Err(refusal) => return format!("doc {}\n", refusal.number()),
@@ -26,7 +32,8 @@ pub fn printed_run(doc: &[u8], script: &[u8]) -> String {
             break;
         };
         number += 1;
-        let answer = match session.call(call, &mut log) {
+        let mut probe = Probe { fault, ..Probe::default() };
+        let answer = match session.probed_call(call, &mut log, &mut probe) {
             Ok(firings) => {
                 let lines = lines_of(&log);
                 let mut answer = format!("ok {} {firings}", lines.len());

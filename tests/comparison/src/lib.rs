@@ -5,4 +5,5 @@ pub mod compare;
 pub mod flat;
 pub mod player;
 pub mod printed;
+pub mod reports;
 pub mod runs;

@@ -33,6 +33,8 @@ pub struct Told {
     /// A session that somebody wrote down, in place of the document's.
     pub session: Option<Vec<u8>>,
     pub calls: Vec<(Call, usize)>,
+    /// The script of a printed run, in place of the calls.
+    pub script: Option<Vec<u8>>,
 }
 
 impl Told {
@@ -43,6 +45,9 @@ impl Told {
         }
         for (call, log_length) in &self.calls {
             told += &format!("call {} log length {log_length}\n", hex(&call.bytes()));
+        }
+        if let Some(script) = &self.script {
+            told += &format!("script {}\n", hex(script));
         }
         told + &difference
     }

@@ -5,7 +5,6 @@ use std::cmp::Reverse;
 use comparison::compare::{call_on_written, read_of_written, Both};
 use comparison::flat::{bytes_of, session_of, SESSION_SIZE};
 use comparison::player;
-use comparison::printed::printed_run;
 use comparison::runs::{changed, run, run_written, sessions, times, Count, Told};
 use second_engine::coverage::{Coverage, Feature};
 use second_engine::generate;
@@ -221,27 +220,6 @@ fn reads_of_every_class_and_id() {
         }
     }
     println!("reads of every class and id: {count:?}");
-}
-
-#[test]
-fn printed_runs() {
-    let mut characters = 0;
-    for seed in 0..1_500 * times() {
-        let mut random = Random::new(seed);
-        let document = generate::document(&mut random);
-        let calls = generate::calls(&mut random, &document, 30);
-        let script = generate::script(&mut random, &calls);
-        let second = second_engine::printed_run(&document.bytes, &script);
-        let printed = printed_run(&document.bytes, &script);
-        let told = Told { seed, document: document.bytes, ..Told::default() };
-        assert!(
-            printed == second,
-            "{}",
-            told.with(format!("script {script:02X?}\nplayer:\n{printed}second:\n{second}"))
-        );
-        characters += printed.len();
-    }
-    println!("printed runs: {characters} characters");
 }
 
 // A comparison that cannot fail shows nothing: each of 01's traps, planted in the second engine,

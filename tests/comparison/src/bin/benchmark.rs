@@ -1,109 +1,58 @@
-//! Times of the player and of the second engine on the same documents and scripts, as ratios from
-//! one run. Both lend one log slice for the whole script and sum up its lines after each call.
+//! Times of both engines on the same documents and scripts, as ratios from one run: first the
+//! program `printed_run` and the second engine as a program, on files; then the player and the
+//! second engine in this process, where both lend one log slice for the whole script and sum up its
+//! lines after each call.
+//!
+//! With the arguments `second FOLDER` it is the second engine as a program.
 
+use std::fs::{self, File};
+use std::io::Write;
+use std::path::Path;
+use std::process::Command;
 use std::time::{Duration, Instant};
+use std::{env, io};
 
 use comparison::player;
+use comparison::printed::{program, Folder};
+use comparison::reports::{start_stop_report, start_stop_script, wide_report, wide_script};
 use second_engine::fields::Fields;
 use second_engine::printed::lines_of;
-use second_engine::record::Record;
-use second_engine::{load, Call, WrittenSession};
+use second_engine::{load, printed_run, Call, WrittenSession};
 
 const LOG_LENGTH: usize = 8_192;
 const ROUNDS: usize = 5;
-const MEDIA: u8 = 60;
 
-/// The records up to the 60 media and 128 anchors: media 4 to 63 in three composites of context 0,
-/// two of them contexts and one a switch. The duration is the media's, the anchors' begins and ends
-/// are made from their number.
-fn report(duration: impl Fn(u8) -> u16, times: impl Fn(u16) -> (u16, u16)) -> Vec<Record> {
-    let mut records = vec![
-        Record::Head { limit: 255 },
-        Record::Node { node_type: 0, parent: 255, duration: 0 },
-        Record::Node { node_type: 0, parent: 0, duration: 0 },
-        Record::Node { node_type: 0, parent: 0, duration: 0 },
-        Record::Node { node_type: 2, parent: 0, duration: 0 },
-    ];
-    for media in 0..MEDIA {
-        let parent = if media == MEDIA - 1 { 3 } else { 1 + media % 2 };
-        records.push(Record::Node { node_type: 1, parent, duration: duration(media) });
-    }
-    for composite in 1..=3 {
-        records.push(Record::Port { context: 0, child: composite });
-    }
-    for media in 0..MEDIA - 1 {
-        records.push(Record::Port { context: 1 + media % 2, child: 4 + media });
-    }
-    records.push(Record::Bind { switch: 3, child: 4 + MEDIA - 1, rule: 255 });
-    for anchor in 0..128 {
-        let (begin, end) = times(anchor);
-        records.push(Record::Anchor { media: 4 + (anchor % 60) as u8, begin, end });
-    }
-    records
+/// Prints the run of the files in the folder.
+fn print_second(folder: &Path) {
+    let read = |name| fs::read(folder.join(name)).expect("the folder has a doc and a script");
+    let printed = printed_run(&read("doc"), &read("script"));
+    let mut out = io::stdout().lock();
+    out.write_all(printed.as_bytes()).and_then(|()| out.flush()).expect("all is written");
 }
 
-/// 64 links with guards: each media starts anew where it has ended, and keys set properties that
-/// the guards read.
-fn wide_report() -> Vec<u8> {
-    let mut records = report(
-        |media| 40 + u16::from(media),
-        |anchor| {
-            let begin = anchor / 60 * 10 + anchor % 7;
-            (begin, begin + 5)
-        },
-    );
-    for value in 0..32 {
-        records.push(Record::Property { value });
-    }
-    for rule in 0..16 {
-        records.push(Record::Rule { property: rule, comparator: 5, value: 0 });
-    }
-    for rule in 0..16 {
-        records.push(Record::CompositeRule { operator: rule % 2, left: rule, right: 15 + rule });
-    }
-    for media in 0..MEDIA {
-        let (subject, target) = (4 + media, 4 + media);
-        let guard = 16 + media % 16;
-        records.push(Record::Link { owner: 0, class: 1, subject, transition: 2, guard });
-        records.push(Record::Action { action: 1, target, value: 0 });
-    }
-    for key in 0..4 {
-        records.push(Record::Link { owner: 0, class: 4, subject: key, transition: 1, guard: 31 });
-        records.push(Record::Action { action: 6, target: key, value: i32::from(key) });
-        records.push(Record::Action { action: 6, target: 16 + key, value: -1 });
-    }
-    records.iter().flat_map(Record::bytes).collect()
-}
-
-/// 50,000 ticks, after every tenth a key, after every 25th a pause of a media or its resume.
-fn wide_script() -> Vec<u8> {
-    let mut calls = vec![Call::Command { action: 1, target: 0, value: 0 }];
-    for tick in 1..=50_000_u32 {
-        calls.push(Call::Tick);
-        if tick % 10 == 0 {
-            calls.push(Call::Key { code: (tick / 10 % 5) as u8 });
-        }
-        if tick % 25 == 0 {
-            let action = if tick % 50 == 0 { 5 } else { 4 };
-            calls.push(Call::Command {
-                action,
-                target: 4 + ((tick - 1) / 50 % 60) as u8,
-                value: 0,
-            });
+/// Runs both programs on the same files, by turns, each into a file of its own; the best of some
+/// rounds each, printed_run's first.
+fn program_times(document: &[u8], script: &[u8]) -> [Duration; 2] {
+    let folder = Folder::new("benchmark");
+    folder.write(document, script);
+    let mut player = Command::new(program());
+    player.current_dir(folder.path());
+    let mut second = Command::new(env::current_exe().expect("this program has a path"));
+    second.arg("second").arg(folder.path());
+    let mut best = [Duration::MAX; 2];
+    let printed = ["printed", "second"].map(|name| folder.path().join(name));
+    for _ in 0..ROUNDS {
+        for (place, command) in [&mut player, &mut second].into_iter().enumerate() {
+            let out = File::create(&printed[place]).expect("a file for what is printed");
+            let start = Instant::now();
+            let status = command.stdout(out).status().expect("the program starts");
+            best[place] = best[place].min(start.elapsed());
+            assert!(status.success());
         }
     }
-    calls.into_iter().flat_map(Call::bytes).collect()
-}
-
-/// Every anchor begins with its media.
-fn start_stop_report() -> Vec<u8> {
-    report(|_| 0, |anchor| (0, 100 + anchor)).iter().flat_map(Record::bytes).collect()
-}
-
-fn start_stop_script() -> Vec<u8> {
-    let start = Call::Command { action: 1, target: 0, value: 0 }.bytes();
-    let stop = Call::Command { action: 2, target: 0, value: 0 }.bytes();
-    [start, stop].concat().repeat(20_000)
+    let [printed, second] = printed.map(|path| fs::read(path).expect("what was printed"));
+    assert!(printed == second, "the printed runs differ");
+    best
 }
 
 fn calls_of(script: &[u8]) -> Vec<Call> {
@@ -132,6 +81,9 @@ impl Checksum {
         self.sum.wrapping_add(self.sums)
     }
 }
+
+/// Loads a document and runs a script on it; the checksum of the lines.
+type Run = fn(&[u8], &[u8]) -> u64;
 
 fn run_player(document: &[u8], script: &[u8]) -> u64 {
     player::run(document, script, &mut [0; LOG_LENGTH])
@@ -167,15 +119,14 @@ fn timed(run: impl FnOnce() -> u64) -> (Duration, u64) {
     (start.elapsed(), answer)
 }
 
-fn micros(time: Duration, calls: usize) -> f64 {
-    time.as_secs_f64() * 1e6 / calls as f64
-}
-
-/// Runs the script on all, by turns; the best of some rounds each.
-fn compare(name: &str, document: &[u8], script: &[u8]) {
-    let runs: [fn(&[u8], &[u8]) -> u64; 3] = [run_player, run_second, run_second_checked];
-    let mut best = [Duration::MAX; 3];
-    let mut checksums = [0; 3];
+/// Runs the script on all engines in this process, by turns; the best of some rounds each.
+fn engine_times<const RUNS: usize>(
+    runs: [Run; RUNS],
+    document: &[u8],
+    script: &[u8],
+) -> [Duration; RUNS] {
+    let mut best = [Duration::MAX; RUNS];
+    let mut checksums = [0; RUNS];
     for _ in 0..ROUNDS {
         for (place, run) in runs.iter().enumerate() {
             let (time, checksum) = timed(|| run(document, script));
@@ -183,29 +134,44 @@ fn compare(name: &str, document: &[u8], script: &[u8]) {
             checksums[place] = checksum;
         }
     }
-    assert_eq!(checksums[0], checksums[1], "the logs differ");
-    assert_eq!(checksums[0], checksums[2], "the logs differ");
+    assert!(checksums.iter().all(|&checksum| checksum == checksums[0]), "the logs differ");
+    best
+}
+
+fn compare(name: &str, document: &[u8], script: &[u8]) {
     let calls = calls_of(script);
+    let micros = |time: Duration| time.as_secs_f64() * 1e6 / calls.len() as f64;
+    let ratio = |time: Duration, other: Duration| time.as_secs_f64() / other.as_secs_f64();
+    let [program, second_program] = program_times(document, script);
+    println!(
+        "{name}, as programs on files: printed_run {:.2} µs a call, second engine {:.2} µs a call; \
+         printed_run / second = {:.2}",
+        micros(program),
+        micros(second_program),
+        ratio(program, second_program)
+    );
     let (lines, firings) = lines_and_firings(document, &calls);
-    let [player, second, checked] = best;
-    let ratio = |other: Duration| player.as_secs_f64() / other.as_secs_f64();
-    println!("{name}: {} calls, {lines} lines, {firings} firings", calls.len());
-    println!("  player                       {:8.2} µs a call", micros(player, calls.len()));
+    println!("{name}, in one process: {} calls, {lines} lines, {firings} firings", calls.len());
+    let [player, second, checked] =
+        engine_times([run_player, run_second, run_second_checked], document, script);
+    println!("  player                       {:8.2} µs a call", micros(player));
     println!(
         "  second engine, checked       {:8.2} µs a call; player / second = {:.2}",
-        micros(checked, calls.len()),
-        ratio(checked)
+        micros(checked),
+        ratio(player, checked)
     );
     println!(
         "  second engine, not checked   {:8.2} µs a call; player / second = {:.2}",
-        micros(second, calls.len()),
-        ratio(second)
+        micros(second),
+        ratio(player, second)
     );
-    let check = check_time(document, &calls);
+    let checks = check_time(document, &calls) * calls.len() as u32;
     println!(
-        "  the player's session check   {:8.2} µs a call, {:.0} % of its time",
-        micros(check, 1),
-        100.0 * micros(check, 1) / micros(player, calls.len())
+        "  the player's session check   {:8.2} µs a call, {:.0} % of the player's time, {:.0} % of \
+         printed_run's",
+        micros(checks),
+        100.0 * ratio(checks, player),
+        100.0 * ratio(checks, program)
     );
 }
 
@@ -236,6 +202,13 @@ fn check_time(document: &[u8], calls: &[Call]) -> Duration {
 }
 
 fn main() {
-    compare("wide report", &wide_report(), &wide_script());
-    compare("start and stop", &start_stop_report(), &start_stop_script());
+    let arguments: Vec<_> = env::args_os().skip(1).collect();
+    match &arguments[..] {
+        [] => {
+            compare("wide report", &wide_report(), &wide_script(50_000));
+            compare("start and stop", &start_stop_report(), &start_stop_script(20_000));
+        }
+        [which, folder] if which == "second" => print_second(Path::new(folder)),
+        _ => panic!("no arguments, or `second` and a folder"),
+    }
 }

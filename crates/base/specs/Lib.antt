@@ -1,4 +1,5 @@
 -- What every definition uses.
 pub mod Tests
 pub mod Loops
+pub mod Marks
 pub mod Bits

@@ -37,7 +37,7 @@ unfoldable pub first : (ℕ → Bool) → ℕ → ℕ → ℕ
 first test zero i = i
 first test (suc k) i = if test i then i else first test k (i + 1)
 
--- ---- laws of `ascending`: before the first turn, one turn, the end, and an end before idle turns
+-- ---- laws of `ascending`: before the first turn, one turn, the end; and turns that change nothing
 
 module _ {A : Type 0} (step : ℕ → A → A) where
   pub ascending-none : (x : A) → x ≡ ascending step 0 x
@@ -51,13 +51,10 @@ module _ {A : Type 0} (step : ℕ → A → A) where
   pub ascending-done : (i n : ℕ) (x : A) {y : A} → i ≡ n → y ≡ ascending step i x → y ≡ ascending step n x
   ascending-done i n x e p = rw (← e) p
 
-  pub ascending-idle : (i n : ℕ) (x : A) {y : A} → y ≡ ascending step i x → ((k : ℕ) → i ≤ k → step k y ≡ y) → i ≤ n → y ≡ ascending step n x
+  pub ascending-idle : (n : ℕ) (x : A) → ((k : ℕ) → k < n → step k x ≡ x) → ascending step n x ≡ x
   unfolding ascending
-  ascending-idle i zero x p idle h = ascending-done i zero x (omega arith) p
-  ascending-idle i (suc n) x p idle h =
-      ⊎-elim (λ e. ascending-done i (suc n) x e p)
-      (λ l. sym (idle n (omega arith)) ∙ ap (step n) (ascending-idle i n x p idle (omega arith)))
-      (eq-or-lt-of-le h)
+  ascending-idle zero x idle = refl
+  ascending-idle (suc n) x idle = ap (step n) (ascending-idle n x (λ k h. idle k (omega arith))) ∙ idle n (omega arith)
 
   -- ---- laws of `descending`
 
@@ -156,6 +153,9 @@ one-some test zero k h e = absurd (omega arith)
 one-some test (suc n) k h e =
     let l : k ≤ n = omega arith in
     ⊎-elim (λ q. rw (← q, e) (or-true (some test k))) (λ (l : k < n). rw (one-some test n k l e)) (eq-or-lt-of-le l)
+
+pub none-some : (test : ℕ → Bool) (n : ℕ) → some test n ≡ false → (k : ℕ) → k < n → test k ≡ false
+none-some test n e k h = by-test (test k) (λ p. absurd (false≢true (sym e ∙ one-some test n k h p))) (λ p. p)
 
 pub same-some : (test other : ℕ → Bool) (n : ℕ) → ((k : ℕ) → k < n → test k ≡ other k) → some test n ≡ some other n
 unfolding some

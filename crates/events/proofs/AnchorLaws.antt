@@ -1,16 +1,19 @@
--- Laws of the anchors that move, and one turn of the loop over them.
+-- Laws of the anchors that move, and one turn of the loops over them.
 use mathlib.Core.Path.{_≡_, refl, sym, _∙_}
-use mathlib.Core.Bool.{Bool, true, false, _&&_}
-use Prim.Native.Nat.{ℕ, _≤_}
+use mathlib.Core.Bool.{Bool, true, false, _&&_, _||_}
+use mathlib.Core.List.{List}
+use Prim.Native.Nat.{ℕ, _+_, _<_, _≤_}
 use native.Mathlib.Omega.{arith}
-use borrow.Author.Tests.{ne-eqb}
-use Rattle.base.specs.Tests.{if_then_else_, _=?_}
+use borrow.Author.Tests.{ne-eqb, eqb-true}
+use lib.ListN.{getD, set}
+use Rattle.base.specs.Tests.{if_then_else_, _=?_, by-test}
+use Rattle.base.specs.Marks.{Marked, marked-more}
 use Rattle.machine.specs.Terms.{toStart, noAction, noTransition}
 use Rattle.machine.specs.Tables.{anchorAt}
 use Rattle.machine.specs.Events.{Run, anchorState, transition, beginsAt, endsAt, follows, anchorTo, anchorChanged, anchorMoved}
 use Rattle.machine.specs.declared.Anchors.{Anchors}
 use Rattle.machine.specs.declared.Document.{Document}
-use Rattle.events.specs.Parts.{selects}
+use Rattle.events.specs.Parts.{selects, dueNext}
 
 module _ (clock : ℕ) where
   pub selects-begins : selects toStart clock ≡ beginsAt clock
@@ -39,3 +42,10 @@ pub anchor-moved : (d : Document) (anchors : Anchors) (moves : ℕ → ℕ → �
     → z ≡ anchorChanged a new change r → z ≡ anchorMoved d moves aborting n new a r
 unfolding anchorMoved
 anchor-moved d anchors moves aborting n new a r change s e p = p ∙ rw (s, e) (sym (changed-if _ aborting a new r))
+
+-- one anchor more is looked at, for the media whose next clock is its time
+pub marked-due : (medias times clocks : List ℕ) (a m : ℕ) (marks : List Bool) (is-due : Bool) → m < 256 → m ≡ getD medias a 0 → is-due ≡ (getD times a 0 =? getD clocks m 0 + 1)
+    → Marked (dueNext medias times clocks) a marks → Marked (dueNext medias times clocks) (a + 1) (set marks m (getD marks m false || is-due))
+unfolding dueNext
+marked-due medias times clocks a m marks is-due h e p k =
+    marked-more _ a m marks is-due _ h (λ n. rw (p, ← e) (by-test (m =? n) (λ q. rw (q, eqb-true m n q)) (λ q. rw q))) refl k

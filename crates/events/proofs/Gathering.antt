@@ -1,6 +1,6 @@
 -- The states of the children, gathered on the way down the ids: where node k is come to, its children have been passed.
 use mathlib.Core.Path.{_≡_, refl, sym, _∙_}
-use mathlib.Core.Bool.{Bool, true, false, _||_}
+use mathlib.Core.Bool.{Bool, true, false, _||_, false≢true}
 use mathlib.Core.List.{List}
 use Prim.Native.Nat.{ℕ, zero, suc, _+_, _-_, _≤_, _<_}
 use native.Mathlib.Numerals.{add-one}
@@ -8,14 +8,15 @@ use native.Mathlib.Omega.{arith}
 use borrow.Author.Tests.{eq-eqb, ne-eqb, eqb-true, eqb-false}
 use lib.ListN.{length, length-set, getD, set, replicate, getD-replicate}
 use lib.Seq.{getD-set-same, getD-set-other}
-use Rattle.base.specs.Tests.{if_then_else_, by-test, _=?_}
+use Rattle.base.specs.Tests.{if_then_else_, by-test, _=?_, not-false}
 use Rattle.base.specs.Loops.{some}
 use Rattle.machine.specs.Terms.{sleeping, occurring, paused}
-use Rattle.machine.specs.Tables.{parentOf}
-use Rattle.machine.specs.Events.{Run, awake, transition, nodeState, nodeTo, nodeChanged, childIn, childrenState}
+use Rattle.machine.specs.Tables.{typeOf, isMedia, parentOf}
+use Rattle.machine.specs.Events.{Run, awake, transition, nodeState, nodeTo, nodeChanged, childIn, childrenState, abortsAt, settledOne}
 use Rattle.machine.specs.Sound.{SoundNodes}
 use Rattle.machine.specs.declared.Nodes.{Nodes}
-use Rattle.events.specs.Parts.{withChild}
+use Rattle.machine.proofs.Keep.{chosen}
+use Rattle.events.specs.Parts.{resettled, withChild}
 
 -- ---- some id from i on, among so many, passes the test
 
@@ -120,9 +121,31 @@ gathered-more nodes states later gathered k parent h l b e same g = (
         let t : k - 1 + 1 ≡ k = omega arith in
         rw (s, t, from-same (childIn nodes later state c) (childIn nodes states state c) (nodes .count - k) k (λ j u. rw (same j u)))
 
--- a node that changes leaves the states of later ones
-pub node-to-later : (aborting : Bool) (n new : ℕ) (r z : Run) → z ≡ nodeTo aborting n new r → (j : ℕ) → n < j → nodeState (z .state) j ≡ nodeState (r .state) j
-unfolding nodeTo nodeChanged if_then_else_
-node-to-later aborting n new r z e j h =
-    rw e
-    (by-test (transition aborting (nodeState (r .state) n) new =? 0) (λ t. rw t) (λ t. rw t (getD-set-other (r .state .«node_state») n j new 0 (λ u. omega arith))))
+-- ---- one turn of the settling
+
+node-to-later : (aborting : Bool) (n new : ℕ) (r : Run) (j : ℕ) → n < j → nodeState (nodeTo aborting n new r .state) j ≡ nodeState (r .state) j
+unfolding nodeTo nodeChanged
+node-to-later aborting n new r j h =
+    chosen (λ (z : Run). nodeState (z .state) j ≡ nodeState (r .state) j) _ (λ _. refl)
+    (λ _. getD-set-other (r .state .«node_state») n j new 0 (λ u. omega arith))
+
+node-to-same : (aborting : Bool) (n new : ℕ) (r : Run) → nodeState (r .state) n =? new ≡ true → nodeTo aborting n new r ≡ r
+unfolding nodeTo nodeChanged transition if_then_else_
+node-to-same aborting n new r e = rw e
+
+module _ (nodes : Nodes) (action target c : ℕ) (r : Run) where
+  -- it leaves the states of later nodes
+  pub settled-later : {z : Run} → z ≡ settledOne nodes action target c r → (j : ℕ) → c < j → nodeState (z .state) j ≡ nodeState (r .state) j
+  unfolding settledOne
+  settled-later e j h = rw e (chosen (λ (z : Run). nodeState (z .state) j ≡ nodeState (r .state) j) _ (λ _. refl) (λ _. node-to-later _ c _ r j h))
+
+  module _ (children : ℕ) (e : children ≡ childrenState nodes (r .state .«node_state») c) where
+    pub settled-moves : {z : Run} {aborting : Bool} → resettled (typeOf nodes c) (nodeState (r .state) c) children ≡ true → aborting ≡ abortsAt nodes action target c
+        → z ≡ nodeTo aborting c children r → z ≡ settledOne nodes action target c r
+    unfolding settledOne resettled if_then_else_
+    settled-moves t a p = by-test (isMedia nodes c) (λ m. absurd (false≢true (rw m at t))) (λ m. rw (m, ← e, ← a) p)
+
+    pub settled-stays : resettled (typeOf nodes c) (nodeState (r .state) c) children ≡ false → r ≡ settledOne nodes action target c r
+    unfolding settledOne resettled if_then_else_
+    settled-stays t = by-test (isMedia nodes c) (λ m. rw m)
+        (λ m. rw (m, ← e) (sym (node-to-same _ c children r (not-false _ (rw m at t)))))

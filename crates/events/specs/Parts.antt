@@ -1,7 +1,9 @@
 -- What the contracts of inner functions name beside the definitions of `machine`.
 use mathlib.Core.Path.{_≡_}
-use mathlib.Core.Bool.{Bool, _&&_}
-use Prim.Native.Nat.{ℕ, _≤_, _<_}
+use mathlib.Core.Bool.{Bool, not, _&&_}
+use mathlib.Core.List.{List}
+use Prim.Native.Nat.{ℕ, _+_, _≤_, _<_}
+use lib.ListN.{getD}
 use Rattle.base.specs.Tests.{if_then_else_, _=?_, _<?_}
 use Rattle.machine.specs.Terms.{media, sleeping, occurring, paused, toStart, toSet, noAction, noId}
 use Rattle.machine.specs.Tables.{bindAt}
@@ -16,6 +18,14 @@ selects action clock =
     if action =? toStart then beginsAt clock
     else if action =? noAction then endsAt clock
     else isAwake
+
+-- anchor a is one of media n, and its time comes with the next clock of n; the time is the anchor's begin or its end
+unfoldable pub dueNext : List ℕ → List ℕ → List ℕ → ℕ → ℕ → Bool
+dueNext medias times clocks n a = getD medias a 0 =? n && getD times a 0 =? getD clocks n 0 + 1
+
+-- a node of this type and state takes the state that its children give it: it is a composite, and in another one
+unfoldable pub resettled : ℕ → ℕ → ℕ → Bool
+resettled type state children = not (type =? media) && not (state =? children)
 
 -- the state that some children give a composite, with one child more
 unfoldable pub withChild : ℕ → ℕ → ℕ

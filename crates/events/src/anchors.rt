@@ -7,13 +7,15 @@ use base::index_of;
 use machine::Anchors;
 ghost use mathlib.Core.Path.{_≡_};
 ghost use mathlib.Core.Bool.{_&&_};
-ghost use Prim.Native.Nat.{_≤_};
+ghost use Prim.Native.Nat.{ℕ, _+_, _<_, _≤_};
+ghost use lib.ListN.{getD};
 ghost use Rattle.base.specs.Tests.{if_then_else_, _=?_};
+ghost use Rattle.base.specs.Marks.{Marked};
 ghost use Rattle.machine.specs.Terms.{toAbort, noTransition};
 ghost use Rattle.machine.specs.Events.{transition, anchorsMoved};
 ghost use Rattle.machine.specs.declared.Document.{Document};
 ghost use Rattle.events.specs.Running.{on};
-ghost use Rattle.events.specs.Parts.{selects};
+ghost use Rattle.events.specs.Parts.{selects, dueNext};
 
 // Whether an anchor moves: on start (1) one that begins at the clock, with no action (0) an awake one that ends at it, else an awake one.
 fn selected(action: u8, clock: u16, begin: u16, end: u16, state: u8) -> bool
@@ -91,4 +93,33 @@ pub fn move_anchors(
         }
     }
     t
+}
+
+// Whether the time comes with the clock after this one.
+fn is_next(time: u16, clock: u16) -> bool
+    ensures { λ r. ⌜ r ≡ time =? clock + 1 ⌝ }
+{
+    time as u32 == clock as u32 + 1
+}
+
+// The media that have an anchor whose time comes with their next clock: of so many anchors, with these media and times.
+pub fn due_media(
+    count: usize,
+    media: [u8; 128],
+    times: [u16; 128],
+    clocks: [u16; 64],
+) -> [bool; 256]
+    requires { ⌜ (count ≤ 128) × ((a : ℕ) → a < count → getD media a 0 < 64) ⌝ }
+    ensures { λ r. ⌜ Marked (dueNext media times clocks) count r ⌝ }
+{
+    let mut marks: [bool; 256] = [false; 256];
+    let mut next = 0;
+    while next < count {
+        let a = next;
+        next += 1;
+        let n = index_of(media[a]);
+        let is_due = is_next(times[a], clocks[n]);
+        marks[n] = marks[n] | is_due;
+    }
+    marks
 }

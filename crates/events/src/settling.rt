@@ -9,7 +9,7 @@ ghost use Prim.Native.Nat.{_<_};
 ghost use Rattle.machine.specs.Events.{abortsAt, settled};
 ghost use Rattle.machine.specs.Sound.{SoundNodes};
 ghost use Rattle.events.specs.Running.{on};
-ghost use Rattle.events.specs.Parts.{withChild};
+ghost use Rattle.events.specs.Parts.{resettled, withChild};
 
 // Whether composite c logs aborts where it goes to sleep.
 fn aborts_at(nodes: Nodes, action: u8, target: usize, c: usize) -> bool
@@ -20,6 +20,16 @@ fn aborts_at(nodes: Nodes, action: u8, target: usize, c: usize) -> bool
         return false;
     }
     is_below(nodes, target, c)
+}
+
+// Whether a node of this type and state takes the state that its children give it.
+fn resettles(node_type: u8, state: u8, children: u8) -> bool
+    ensures { λ r. ⌜ r ≡ resettled «node_type» state children ⌝ }
+{
+    if node_type == 1 {
+        return false;
+    }
+    state != children
 }
 
 // The state that some children give, with one child more.
@@ -48,16 +58,13 @@ pub fn settle(nodes: Nodes, w: Work, log: &mut [u8], action: u8, target: usize) 
     let mut n = nodes.count;
     while 0 < n {
         n -= 1;
-        let parent = index_of(nodes.parents[n]);
-        if nodes.types[n] == 1 {
-            let state = with_child(gathered[parent], t.node_state[n]);
-            gathered[parent] = state;
-        } else {
+        if resettles(nodes.types[n], t.node_state[n], gathered[n]) {
             let aborting = aborts_at(nodes, action, target, n);
             t = node_to(t, &mut *log, aborting, n, gathered[n]);
-            let state = with_child(gathered[parent], t.node_state[n]);
-            gathered[parent] = state;
         }
+        let parent = index_of(nodes.parents[n]);
+        let state = with_child(gathered[parent], t.node_state[n]);
+        gathered[parent] = state;
     }
     t
 }

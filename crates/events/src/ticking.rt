@@ -1,16 +1,14 @@
 // The tick's own part, every media that occurs and one settling; and a key.
 use super::Work;
+use super::anchors::due_media;
 use super::anchors::move_anchors;
 use super::log::emit;
 use super::media::move_media;
 use super::settling::settle;
-use machine::Anchors;
 use machine::Document;
 ghost use mathlib.Core.Path.{_≡_};
-ghost use Prim.Native.Nat.{_<_, _≤_};
-ghost use Rattle.machine.specs.Tables.{durationOf};
 ghost use Rattle.base.specs.Loops.{ascending};
-ghost use Rattle.machine.specs.Tick.{passed, tickedOne, ticked, keyed};
+ghost use Rattle.machine.specs.Tick.{tickedOne, ticked, keyed};
 ghost use Rattle.machine.specs.Sound.{Sound};
 ghost use Rattle.events.specs.Running.{on};
 ghost use Rattle.events.specs.Parts.{advancing};
@@ -28,37 +26,38 @@ fn advances(node_type: u8, state: u8, clock: u16) -> bool
     clock < 65535
 }
 
-// Media n, of this duration, comes to the clock: its anchors that end there stop, those that begin there start, and at its own end it stops.
-fn pass(anchors: Anchors, w: Work, log: &mut [u8], n: usize, duration: u16, clock: u16) -> Work
-    requires { ⌜ (anchors .count ≤ 128) × (n < 64) ⌝ }
-    ensures { λ r. ⌜ ((d : Document) → d .anchors ≡ anchors → durationOf (d .nodes) n ≡ duration → on r (now (log .exit)) ≡ passed d n clock (on w (now (log .entry)))) ⌝ }
-{
-    let mut t = w;
-    t.node_clock[n] = clock;
-    let u = move_anchors(anchors, t, &mut *log, 0, clock, n, 0);
-    let v = move_anchors(anchors, u, &mut *log, 1, clock, n, 1);
-    if duration == clock {
-        return move_media(anchors, v, log, 2, n);
-    }
-    v
-}
-
-// Every media that occurs comes to its next clock, ids ascending.
+// Every media that occurs comes to its next clock, ids ascending. Most have nothing to do there but to count.
 fn advance_all(d: Document, w: Work, log: &mut [u8]) -> Work
     requires { ⌜ Sound d ⌝ }
     ensures { λ r. ⌜ on r (now (log .exit)) ≡ ascending (tickedOne d) (d .nodes .count) (on w (now (log .entry))) ⌝ }
 {
     let mut t = w;
     let nodes = d.nodes;
+    let anchors = d.anchors;
+    let clocks = w.node_clock;
+    let media = anchors.media;
+    let ends = anchors.ends;
+    let ending = due_media(anchors.count, media, ends, clocks);
+    let begins = anchors.begins;
+    let beginning = due_media(anchors.count, media, begins, clocks);
     let end = nodes.count;
-    let mut next = 0;
-    while next < end {
-        let n = next;
-        next += 1;
+    let mut n = 0;
+    while n < end {
         let clock = t.node_clock[n];
         if advances(nodes.types[n], t.node_state[n], clock) {
-            t = pass(d.anchors, t, &mut *log, n, nodes.durations[n], clock + 1);
+            let now = clock + 1;
+            t.node_clock[n] = now;
+            if ending[n] {
+                t = move_anchors(d.anchors, t, &mut *log, 0, now, n, 0);
+            }
+            if beginning[n] {
+                t = move_anchors(d.anchors, t, &mut *log, 1, now, n, 1);
+            }
+            if nodes.durations[n] == now {
+                t = move_media(d.anchors, t, &mut *log, 2, n);
+            }
         }
+        n += 1;
     }
     t
 }

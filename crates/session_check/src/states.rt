@@ -14,7 +14,7 @@ ghost use Rattle.machine.specs.Terms.{occurring, paused, sleeping};
 ghost use Rattle.machine.specs.Tables.{typeOf, durationOf, anchorAt};
 ghost use Rattle.machine.specs.Events.{nodeState, nodeClock, anchorState, childIn, childrenState};
 ghost use Rattle.machine.specs.Broken.{clockRight, nodeRight, anchorRight, statesRight};
-ghost use Rattle.session_check.specs.Marks.{Marked};
+ghost use Rattle.base.specs.Marks.{Marked};
 
 // A node is marked where it has a child in this state.
 fn with_child_in(nodes: Nodes, states: [u8; 64], state: u8) -> [bool; 256]

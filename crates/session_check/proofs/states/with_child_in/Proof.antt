@@ -1,7 +1,7 @@
 -- `session_check::states::with_child_in` meets its contract. Assumes nothing.
 use Rattle.session_check.proofs.Prelude.{refl, _≤_, _-_, arith, needs}
 use Rattle.machine.specs.Events.{childIn}
-use Rattle.session_check.specs.Marks.{Marked, marked-none, marked-more, marked-done}
+use Rattle.base.specs.Marks.{Marked, marked-none, marked-more, marked-done}
 use Rattle.session_check.proofs.states.with_child_in.Statement.{statement}
 use Rattle.session_check.proofs.states.with_child_in.Tie as tie
 

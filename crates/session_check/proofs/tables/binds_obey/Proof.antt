@@ -2,7 +2,7 @@
 use Rattle.session_check.proofs.Prelude.{_≡_, refl, sym, _≤_, _-_, arith, needs, every, every-none, every-more, every-done, every-fails, verdict, Document}
 use Rattle.machine.specs.Records.{isDefault, bindFault}
 use Rattle.machine.specs.Broken.{bindObeys}
-use Rattle.session_check.specs.Marks.{Marked, marked-none, marked-more}
+use Rattle.base.specs.Marks.{Marked, marked-none, marked-more}
 use Rattle.session_check.proofs.Full.{full-binds}
 use Rattle.session_check.proofs.tables.binds_obey.Statement.{statement}
 use Rattle.session_check.proofs.tables.binds_obey.Tie as tie

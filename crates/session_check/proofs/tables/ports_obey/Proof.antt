@@ -3,7 +3,7 @@ use Rattle.session_check.proofs.Prelude.{_≡_, sym, _∙_, true, _≤_
 use mathlib.Core.Bool.{or-true, and-true}
 use Rattle.machine.specs.Records.{portFault}
 use Rattle.machine.specs.Broken.{portObeys}
-use Rattle.session_check.specs.Marks.{Marked, marked-none, marked-more}
+use Rattle.base.specs.Marks.{Marked, marked-none, marked-more}
 use Rattle.session_check.proofs.Full.{full-ports}
 use Rattle.session_check.proofs.SamePort.{isPortOf, same-port}
 use Rattle.session_check.proofs.tables.ports_obey.Statement.{statement}

@@ -7,7 +7,7 @@ ghost use mathlib.Core.Bool.{_&&_};
 ghost use Prim.Native.Nat.{_+_, _<_};
 ghost use Rattle.base.specs.Tests.{_=?_};
 ghost use Rattle.machine.specs.Tables.{linkAt};
-ghost use Rattle.machine.specs.Chain.{firingLogged, actionsRun, fired, linkTried, lineTaken, chained};
+ghost use Rattle.machine.specs.Chain.{firingLogged, actionsRun, fired, chained};
 ghost use Rattle.machine.specs.Sound.{Sound};
 ghost use Rattle.events.specs.Running.{on};
 ghost use Rattle.chain.specs.Trying.{guarded};
@@ -94,31 +94,15 @@ fn hears(class: u8, subject: u8, transition: u8, x: Line) -> bool
     transition == x.transition
 }
 
-// One line is taken: links by id.
-fn take_line(d: Document, w: Work, log: &mut [u8], x: Line) -> Work
-    requires { ⌜ Sound d ⌝ }
-    ensures { λ r. ⌜ on r (now (log .exit)) ≡ lineTaken d x (on w (now (log .entry))) ⌝ }
-{
-    let mut t = w;
-    let links = d.links;
-    let end = links.count;
-    let mut next = 0;
-    while next < end {
-        let l = next;
-        next += 1;
-        if hears(links.classes[l], links.subjects[l], links.transitions[l], x) {
-            t = try_link(d, t, &mut *log, l, links.guards[l]);
-        }
-    }
-    t
-}
-
-// The lines of the log are taken in order, until none is left.
+// The lines of the log are taken in order, until none is left; for each, links by id. Both loops stand here, so that a line
+// that no link hears hands over no table.
 pub fn run_chain(d: Document, w: Work, log: &mut [u8]) -> Work
     requires { ⌜ Sound d ⌝ }
     ensures { λ r. ⌜ on r (now (log .exit)) ≡ chained d (on w (now (log .entry))) ⌝ }
 {
     let mut t = w;
+    let links = d.links;
+    let end = links.count;
     let room = log.len() / 4;
     let mut next = 0;
     while next < room {
@@ -129,7 +113,14 @@ pub fn run_chain(d: Document, w: Work, log: &mut [u8]) -> Work
         }
         next += 1;
         let x = events::log::line_at(&*log, at, k);
-        t = take_line(d, t, &mut *log, x);
+        let mut link = 0;
+        while link < end {
+            let l = link;
+            link += 1;
+            if hears(links.classes[l], links.subjects[l], links.transitions[l], x) {
+                t = try_link(d, t, &mut *log, l, links.guards[l]);
+            }
+        }
     }
     t
 }

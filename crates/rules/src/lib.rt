@@ -38,10 +38,13 @@ fn simple_rule_holds(rules: Rules, values: [i32; 32], id: usize) -> bool
     requires { ⌜ (id < rules .count) × SoundRules 32 rules × (ruleAt rules id .kind ≡ 4) ⌝ }
     ensures { λ r. ⌜ r ≡ ruleHolds rules values id ⌝ }
 {
-    let property = index_of(rules.properties[id]);
+    let properties = rules.properties;
+    let property = index_of(properties[id]);
     let x = values[property];
-    let y = rules.values[id];
-    compare(rules.comparators[id], x, y)
+    let constants = rules.values;
+    let y = constants[id];
+    let comparators = rules.comparators;
+    compare(comparators[id], x, y)
 }
 
 // What is known of the composite rules, by id: 0 not decided yet, 1 does not hold, 2 holds; and whether the rule just decided holds.
@@ -59,12 +62,14 @@ fn mark_of(holds: bool) -> u8
     1
 }
 
-// A rule, and what is known once it is decided.
+// A rule, and what is known once it is decided. Each column is taken out before an entry is read: a table that is read
+// itself is copied once more for every call that it is handed to.
 fn decide(rules: Rules, values: [i32; 32], known: [u8; 32], id: usize) -> Decision
     requires { ⌜ (id < rules .count) × SoundRules 32 rules × Remembered rules values known ⌝ }
     ensures { λ r. ⌜ Decided rules values known id (r .holds) (r .known) ⌝ }
 {
-    if rules.kinds[id] == 4 {
+    let kinds = rules.kinds;
+    if kinds[id] == 4 {
         let holds = simple_rule_holds(rules, values, id);
         return Decision {
             known: known,
@@ -78,12 +83,15 @@ fn decide(rules: Rules, values: [i32; 32], known: [u8; 32], id: usize) -> Decisi
             holds: mark == 2,
         };
     }
-    let left = index_of(rules.lefts[id]);
+    let lefts = rules.lefts;
+    let left = index_of(lefts[id]);
     let first = decide(rules, values, known, left);
     let first_known = first.known;
-    let right = index_of(rules.rights[id]);
+    let rights = rules.rights;
+    let right = index_of(rights[id]);
     let second = decide(rules, values, first_known, right);
-    let holds = combine(rules.operators[id], first.holds, second.holds);
+    let operators = rules.operators;
+    let holds = combine(operators[id], first.holds, second.holds);
     let mut all_known = second.known;
     all_known[id] = mark_of(holds);
     Decision {
@@ -97,9 +105,6 @@ pub fn rule_holds(rules: Rules, values: [i32; 32], id: usize) -> bool
     requires { ⌜ (id < rules .count) × SoundRules 32 rules ⌝ }
     ensures { λ r. ⌜ r ≡ ruleHolds rules values id ⌝ }
 {
-    if rules.kinds[id] == 4 {
-        return simple_rule_holds(rules, values, id);
-    }
     let known = [0; 32];
     let decision = decide(rules, values, known, id);
     decision.holds

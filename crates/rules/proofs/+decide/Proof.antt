@@ -32,7 +32,7 @@ pub +decide-spec : {M : Type 1} → statement M
     close μ-decide λ t. decide-lts.spec
     (simple-rule-holds-reads.Asked, simple-rule-holds-reads.Learnt, index-of-reads.Asked, index-of-reads.Learnt, decide-below t, decide.Post, combine-reads.Asked, combine-reads.Learnt, mark-of-reads.Asked, mark-of-reads.Learnt)
     (decide-at t) decide.Post
-    (λ c. search needs)  -- element-copy-out-if1
+    (λ c. search needs)  -- array-read-if1
     (λ c κs.
     let the-entry = c .before .before in
     (the-entry .pre .1 .0, the-entry .pre .1 .1, c .if1 .taken))  -- simple-rule-holds-requires
@@ -42,20 +42,20 @@ pub +decide-spec : {M : Type 1} → statement M
     (λ c. search needs)  -- array-read-mark
     (λ c.
     let the-entry = c .before .before .before in
-    record { answer = remembered (the-entry .args .t1) (the-entry .args .values) _ _ (the-entry .pre .1 .2) (c .if2 .taken); remembered = the-entry .pre .1 .2; kept = λ i h. h; noted = λ _. c .if2 .taken })  -- returns-2
-    (λ c. search needs)  -- element-copy-out-index-of
+    record { answer = remembered (the-entry .args .rules) (the-entry .args .values) _ _ (the-entry .pre .1 .2) (c .if2 .taken); remembered = the-entry .pre .1 .2; kept = λ i h. h; noted = λ _. c .if2 .taken })  -- returns-2
+    (λ c. search needs)  -- array-read-index-of
     (λ c κs. search needs)  -- index-of-requires
     (λ c κs.
     let the-entry = c .before .before .before .before .before in
     let below = the-entry .pre .1 .1 .left _ (the-entry .pre .1 .0) (c .before .before .before .if1 .left) in
     (omega arith, (omega arith, the-entry .pre .1 .1, the-entry .pre .1 .2)))  -- decide-requires
-    (λ c. search needs)  -- element-copy-out-index-of-2
+    (λ c. search needs)  -- array-read-index-of-2
     (λ c κs. search needs)  -- index-of-requires-2
     (λ c κs.
     let the-entry = c .before .before .before .before .before .before .before .before .before in
     let below = the-entry .pre .1 .1 .right _ (the-entry .pre .1 .0) (c .before .before .before .before .before .before .before .if1 .left) in
     (omega arith, (omega arith, the-entry .pre .1 .1, c .before .before .before .decide .ensures .remembered)))  -- decide-requires-2
-    (λ c. search needs)  -- element-copy-out-combine
+    (λ c. search needs)  -- array-read-combine
     (λ c κs. search needs)  -- combine-requires
     (λ c κs. search needs)  -- mark-of-requires
     (λ c. search needs)  -- array-write-all-known
@@ -63,12 +63,12 @@ pub +decide-spec : {M : Type 1} → statement M
     let the-second = c .before .before .before .before in
     let the-first = the-second .before .before .before .before in
     let the-entry = the-first .before .before .before .before .before .before in
-    let answer : c .before .before .combine .result ≡ ruleHolds (the-entry .args .t1) (the-entry .args .values) (the-entry .args .id) =
+    let answer : c .before .before .combine .result ≡ ruleHolds (the-entry .args .rules) (the-entry .args .values) (the-entry .args .id) =
     rw (
-      composite (the-entry .args .t1) (the-entry .args .values) (the-entry .pre .1 .1) (the-entry .args .id) (the-entry .pre .1 .0) (the-first .before .before .before .before .if1 .left),
+      composite (the-entry .args .rules) (the-entry .args .values) (the-entry .pre .1 .1) (the-entry .args .id) (the-entry .pre .1 .0) (the-first .before .before .before .before .if1 .left),
       ← the-first .before .index-of .ensures .0,
       ← the-second .before .index-of2 .ensures .0,
       ← the-first .decide .ensures .answer,
       ← the-second .decide2 .ensures .answer,
     ) (c .before .before .combine .ensures) in
-    one-more (the-entry .args .t1) (the-entry .args .values) (the-first .decide .ensures) (the-second .decide2 .ensures) (omega (arith, the-entry .pre .1 .0, the-entry .pre .1 .1 .few)) answer (c .mark-of .ensures))  -- returns-3
+    one-more (the-entry .args .rules) (the-entry .args .values) (the-first .decide .ensures) (the-second .decide2 .ensures) (omega (arith, the-entry .pre .1 .0, the-entry .pre .1 .1 .few)) answer (c .mark-of .ensures))  -- returns-3

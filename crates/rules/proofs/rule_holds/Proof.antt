@@ -8,11 +8,6 @@ pub rule-holds-spec : {M : Type 1} → statement M
 rule-holds-spec =
     tie.close
     (tie.spec
-    (λ c. search needs)  -- element-copy-out-if1
-    (λ c κs. search needs)  -- simple-rule-holds-requires
+    (λ c κs. (c .pre .0, c .pre .1, nothing-remembered (c .args .rules) (c .args .values)))  -- decide-requires
     (λ c. search needs)  -- returns
-    (λ c κs.
-    let the-entry = c .before .before in
-    (the-entry .pre .0, the-entry .pre .1, nothing-remembered (the-entry .args .t1) (the-entry .args .values)))  -- decide-requires
-    (λ c. search needs)  -- returns-2
     )

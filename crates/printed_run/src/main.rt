@@ -2,6 +2,7 @@
 //
 // What is printed is written by the library `printing`. Here files are read, the player is called, and lines go to standard output.
 use libc::STDOUT_FILENO;
+use machine::CallAnswer;
 use machine::Called;
 use machine::LoadAnswer;
 use machine::Session;
@@ -20,6 +21,13 @@ struct ScriptRun {
     goes_on: bool,
 }
 
+// The lines of a run: how many there are, how many bytes of `out` those fill that are not written yet, and whether the run goes on.
+struct Lines {
+    number: u64,
+    filled: usize,
+    goes_on: bool,
+}
+
 // ---- what is printed
 
 // Whether all was written.
@@ -30,6 +38,60 @@ fn print(line: &[u8]) -> bool {
     }
     is_written
 }
+
+fn stopped(mut lines: Lines) -> Lines
+    ensures { λ r. ⌜ r .filled ≡ lines .filled ⌝ }
+{
+    lines.goes_on = false;
+    lines
+}
+
+fn write_lines(mut lines: Lines, out: &[u8]) -> Lines
+    requires { ⌜ lines .filled ≤ length (now out) ⌝ }
+    ensures { λ r. ⌜ r .filled ≡ 0 ⌝ }
+{
+    let filled = lines.filled;
+    lines.filled = 0;
+    let is_written = print(&out[..filled]);
+    if !is_written {
+        return stopped(lines);
+    }
+    lines
+}
+
+// The line of a call. There is always room in `out` for one line more: where the next might not fit, all are written.
+fn add_line(mut lines: Lines, answer: CallAnswer, log: &[u8], out: &mut [u8]) -> Lines
+    requires { ⌜ lines .filled + (50 + 3 * length (now log)) ≤ length (now out) ⌝ }
+    ensures { λ r. ⌜ r .filled + (50 + 3 * length (now (log .entry))) ≤ length (now (out .entry)) ⌝ }
+{
+    let mut number = lines.number;
+    if number == u64::MAX {
+        return stopped(lines);
+    }
+    number += 1;
+    let mut filled = lines.filled;
+    filled += printing::lines::call_line(&mut out[filled..], number, answer, log);
+    lines.number = number;
+    lines.filled = filled;
+    if out.len() - filled < 50 + 3 * log.len() {
+        return write_lines(lines, &*out);
+    }
+    lines
+}
+
+// The line of a wrong record, after those of the calls before it.
+fn end_lines(lines: Lines, out: &[u8]) -> Lines
+    requires { ⌜ lines .filled ≤ length (now out) ⌝ }
+    ensures { λ r. ⌜ r .filled ≡ 0 ⌝ }
+{
+    let written = write_lines(lines, out);
+    if written.goes_on {
+        print(b"script\n");
+    }
+    stopped(written)
+}
+
+// ---- the script, byte by byte
 
 fn perform(s: Session, call: ScriptCall, log: &mut [u8]) -> Called {
     match call {
@@ -45,79 +107,50 @@ fn perform(s: Session, call: ScriptCall, log: &mut [u8]) -> Called {
     }
 }
 
-// A call, and its line.
-fn print_call(run: ScriptRun, call: ScriptCall, log: &mut [u8], out: &mut [u8]) -> ScriptRun
-    requires { ⌜ (50 + 3 * length (now log) ≤ length (now out)) × (run .size ≤ 6) ⌝ }
-    ensures { λ r. ⌜ r .size ≤ 6 ⌝ }
-{
-    let mut number = run.number;
-    if number == u64::MAX {
-        return stopped(run);
-    }
-    number += 1;
-    let called = perform(run.session, call, &mut *log);
-    let answer = called.answer;
-    let session = called.session;
-    let n = printing::lines::call_line(&mut *out, number, answer, &*log);
-    let is_written = print(&out[..n]);
-    ScriptRun {
-        session,
-        number,
-        record: [0; 7],
-        size: 0,
-        goes_on: is_written,
-    }
-}
-
-fn stopped(mut run: ScriptRun) -> ScriptRun
-    ensures { λ r. ⌜ r .size ≡ run .size ⌝ }
-{
-    run.goes_on = false;
-    run
-}
-
-// ---- the script, byte by byte
-
-// One byte more of the record that is read. A record has at most 7 bytes, so what is cut has at most 6.
-fn take_byte(run: ScriptRun, byte: u8, log: &mut [u8], out: &mut [u8]) -> ScriptRun
-    requires { ⌜ (50 + 3 * length (now log) ≤ length (now out)) × (run .size ≤ 6) ⌝ }
-    ensures { λ r. ⌜ r .size ≤ 6 ⌝ }
-{
-    let mut record = run.record;
-    let at = run.size;
-    record[at] = byte;
-    let size = at + 1;
-    match printing::script::record_in(&record[..size]) {
-        ScriptRecord::Call(call) => print_call(run, call, log, out),
-        ScriptRecord::Cut => {
-            let session = run.session;
-            ScriptRun {
-                session,
-                number: run.number,
-                record,
-                size,
-                goes_on: true,
-            }
-        }
-        ScriptRecord::Wrong => {
-            print(b"script\n");
-            stopped(run)
-        }
-    }
-}
-
+// A record has at most 7 bytes, so what is cut has at most 6. All lines are written before more of the script is read: whoever feeds it through a pipe sees
+// the lines of what has been read.
 fn run_part(run: ScriptRun, bytes: &[u8], log: &mut [u8], out: &mut [u8]) -> ScriptRun
     requires { ⌜ (50 + 3 * length (now log) ≤ length (now out)) × (run .size ≤ 6) ⌝ }
     ensures { λ r. ⌜ r .size ≤ 6 ⌝ }
 {
-    let mut r = run;
+    // A session is large: it stays where the last call gave it back. Nobody reads the answer that stands there before the first call.
+    let before = run.session;
+    let mut called = Called {
+        answer: CallAnswer::Accepted(0),
+        session: before,
+    };
+    let mut record = run.record;
+    let mut size = run.size;
+    let mut lines = Lines {
+        number: run.number,
+        filled: 0,
+        goes_on: run.goes_on,
+    };
     let mut next = 0;
-    while next < bytes.len() && r.goes_on {
-        let byte = bytes[next];
+    while next < bytes.len() && lines.goes_on {
+        let end = size + 1;
+        record[size] = bytes[next];
         next += 1;
-        r = take_byte(r, byte, &mut *log, &mut *out);
+        match printing::script::record_in(&record[..end]) {
+            ScriptRecord::Call(call) => {
+                called = perform(called.session, call, &mut *log);
+                let answer = called.answer;
+                lines = add_line(lines, answer, &*log, &mut *out);
+                size = 0;
+            }
+            ScriptRecord::Cut => size = end,
+            ScriptRecord::Wrong => lines = end_lines(lines, &*out),
+        }
     }
-    r
+    let written = write_lines(lines, &*out);
+    let session = called.session;
+    ScriptRun {
+        session,
+        number: written.number,
+        record,
+        size,
+        goes_on: written.goes_on,
+    }
 }
 
 // ---- files
@@ -161,7 +194,7 @@ fn run_parts(run: ScriptRun, fd: i32, part: &mut [u8], first: isize, log: &mut [
 
 fn run_script(session: Session, fd: i32, part: &mut [u8], first: isize) {
     let mut log = [0u8; 65536];
-    let mut out = [0u8; 196672];
+    let mut out = [0u8; 262144];
     let run = ScriptRun {
         session,
         number: 0,

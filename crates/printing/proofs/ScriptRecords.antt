@@ -5,7 +5,7 @@ use mathlib.Core.Bool.{true, false, _&&_}
 use mathlib.Core.List.{List, [], _∷_}
 use mathlib.Core.Path.{_≡_, refl, sym, ap}
 use lib.ListN.{length, getD, take, drop}
-use lib.Seq.{getD-take, take-all}
+use lib.Seq.{getD-take, length-take-le, take-all}
 use borrow.Author.Tests.{le-leb, leb-true, leb-false}
 use Rattle.base.specs.Tests.{if_then_else_, by-test, both-pass, _≤?_}
 use Rattle.machine.specs.Fields.{byte, i32}
@@ -58,7 +58,7 @@ known : (kind : ℕ) (rest : List ℕ) → 1 ≤? kind ≡ true → kind ≤? 3 
 unfolding isCall
 known kind rest p q e = leb-false (scriptLength kind) (length rest) (rw (p, q) at e)
 
-pub cut-short : (b : List ℕ) → scriptRecord b ≡ ScriptRecord.Cut → length b ≤ 6
+cut-short : (b : List ℕ) → scriptRecord b ≡ ScriptRecord.Cut → length b ≤ 6
 unfolding scriptRecord recordAfter if_then_else_
 cut-short [] e = omega arith
 cut-short (kind ∷ rest) e =
@@ -68,3 +68,7 @@ cut-short (kind ∷ rest) e =
     by-test (1 ≤? kind && kind ≤? 3)
     (λ q. omega (arith, most-six kind, known kind rest (both-pass (1 ≤? kind) (kind ≤? 3) q .0) (both-pass (1 ≤? kind) (kind ≤? 3) q .1) p))
     (λ q. let z : _≡_ {A = ℕ} 0 1 = cc (rw (p, q) at e) in omega arith))
+
+-- the first n bytes, where they are cut
+pub cut-most : (n : ℕ) (b : List ℕ) → n ≤ length b → scriptRecord (take n b) ≡ ScriptRecord.Cut → n ≤ 6
+cut-most n b h e = omega (arith, length-take-le n b h, cut-short (take n b) e)

@@ -1,0 +1,16 @@
+-- `printed_run::run_script` meets its contract. Assumes nothing.
+use native.Mathlib.Omega.{arith}
+use borrow.Author.Needs.{needs}
+use Rattle.printed_run.proofs.run_script.Statement.{statement}
+use Rattle.printed_run.proofs.run_script.Tie as tie
+
+pub run-script-spec : {M : Type 1} → statement M
+run-script-spec =
+    tie.close
+    (tie.spec
+    (λ c. search needs)  -- slice-aggregate-run-parts
+    (λ c. search needs)  -- slice-aggregate-run-parts-2
+    (λ c κs. (omega arith, omega arith))  -- run-parts-requires
+    (λ c. search needs)  -- same-length
+    (λ c. search needs)  -- returns
+    )

@@ -5,6 +5,7 @@ use crate::text::put_number;
 use crate::text::put_text;
 use machine::CallAnswer;
 use machine::Refusal;
+use records::refusals::number_of;
 ghost use mathlib.Core.Path.{_≡_};
 ghost use mathlib.Core.List.{_++_};
 ghost use Prim.Native.Nat.{_+_, _*_, _≤_};
@@ -65,27 +66,6 @@ fn put_lines(out: &mut [u8], at: usize, log: &[u8]) -> usize
 }
 
 // ---- the answer of a call
-
-// The refusal's number.
-pub fn number_of(refusal: Refusal) -> u8
-    ensures { λ r. ⌜ r ≡ numberOf refusal ⌝ }
-{
-    match refusal {
-        Refusal::CutRecord => 1,
-        Refusal::UnknownKind => 2,
-        Refusal::MisplacedHead => 3,
-        Refusal::TableFull => 4,
-        Refusal::FieldOutOfRange => 5,
-        Refusal::UnknownId => 6,
-        Refusal::Conflict => 7,
-        Refusal::NoNode => 8,
-        Refusal::BadArgument => 9,
-        Refusal::NoSuchId => 10,
-        Refusal::LimitReached => 11,
-        Refusal::LogFull => 12,
-        Refusal::BrokenSession => 13,
-    }
-}
 
 fn put_accepted(out: &mut [u8], at: usize, firings: u8, log: &[u8]) -> usize
     requires { ⌜ at + length (acceptedText firings (now log)) ≤ length (now out) ⌝ }

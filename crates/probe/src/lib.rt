@@ -12,33 +12,12 @@ use machine::ReadAnswer;
 use machine::Refusal;
 use machine::Session;
 use reading::read_session;
+use records::refusals::number_of;
 use writing::write_session;
-ghost use mathlib.Core.Path.{_≡_};
-ghost use Rattle.machine.specs.Answers.{numberOf};
-
-fn refusal_number(refusal: Refusal) -> u8
-    ensures { λ r. ⌜ r ≡ numberOf refusal ⌝ }
-{
-    match refusal {
-        Refusal::CutRecord => 1,
-        Refusal::UnknownKind => 2,
-        Refusal::MisplacedHead => 3,
-        Refusal::TableFull => 4,
-        Refusal::FieldOutOfRange => 5,
-        Refusal::UnknownId => 6,
-        Refusal::Conflict => 7,
-        Refusal::NoNode => 8,
-        Refusal::BadArgument => 9,
-        Refusal::NoSuchId => 10,
-        Refusal::LimitReached => 11,
-        Refusal::LogFull => 12,
-        Refusal::BrokenSession => 13,
-    }
-}
 
 // An answer is the refusal's number times 65,536, or the firings of an accepted call.
 fn refused(refusal: Refusal) -> u32 {
-    65536 * (refusal_number(refusal) as u32)
+    65536 * (number_of(refusal) as u32)
 }
 
 fn call_answer(answer: CallAnswer) -> u32 {

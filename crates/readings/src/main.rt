@@ -4,6 +4,7 @@ use libc::STDOUT_FILENO;
 use machine::LoadAnswer;
 use machine::ReadAnswer;
 use machine::Session;
+use records::refusals::number_of;
 
 fn print(text: &[u8]) {
     io::write_all(STDOUT_FILENO, text);
@@ -43,7 +44,7 @@ fn print_reading(s: Session, class: u8, id: u8) {
         }
         ReadAnswer::Refused(refusal) => {
             print(b" no ");
-            print_number(printing::lines::number_of(refusal) as u64);
+            print_number(number_of(refusal) as u64);
         }
     }
     print(b"\n");
@@ -59,7 +60,7 @@ fn print_document(name: &[u8], document: &[u8]) {
         LoadAnswer::Accepted => print(b": loaded\n"),
         LoadAnswer::Refused(refusal) => {
             print(b": refused ");
-            print_number(printing::lines::number_of(refusal) as u64);
+            print_number(number_of(refusal) as u64);
             print(b"\n");
         }
     }

@@ -1,4 +1,5 @@
-// The records of a document: the constant tables, the fields of a body, and the checks of one record, which loading and the session check share.
+// The records of a document: the constant tables, the fields of a body, and the checks of one record, which loading and the session check share; and the number of a refusal.
 pub mod checks;
 pub mod fields;
+pub mod refusals;
 pub mod tables;

@@ -187,7 +187,9 @@ fn run_parts(run: ScriptRun, fd: i32, part: &mut [u8], first: isize, log: &mut [
         turns -= 1;
         let n = io::count(got, &*part);
         r = run_part(r, &part[..n], &mut *log, &mut *out);
-        got = read_script(fd, &mut *part);
+        if r.goes_on {
+            got = read_script(fd, &mut *part);
+        }
     }
     end_script(r, got)
 }

@@ -18,7 +18,9 @@ run-parts-spec =
     tie.close
     (tie.spec
     Inv-loop μ-loop
-    (λ c. (refl, refl, refl, c .before .before .before .pre .1))  -- loop-holds
+    (λ c.
+    let the-entry = c .before .before .before in
+    (refl, refl, refl, the-entry .pre .1))  -- loop-holds
     (λ c. search needs)  -- sub-turns
     (λ c κs. search needs)  -- count-requires
     (λ c. search needs)  -- slice-reshare-prefix-run-part
@@ -31,9 +33,14 @@ run-parts-spec =
     (λ c. search needs)  -- loop-less
     (λ c.
     let the-read-script = c .before .before .read-script in
-    let the-loop = c .before .before .before .before .before .before .before .before .before .before .before .before .before .before .before .before .before .loop in
-    let the-run-part = c .before .before .before .before .before .before .before .before .run-part in
+    let the-loop = c .before .before .before .before .before .before .before .before .before .before .before .before .before .before .before .before .before .before .loop in
+    let the-run-part = c .before .before .before .before .before .before .before .before .before .run-part in
     (the-read-script .kept .1 .0 ∙ the-loop .inv .0, the-run-part .kept .1 .1 .0 ∙ the-loop .inv .1, the-run-part .kept .1 .1 .1 .0 ∙ the-loop .inv .2, the-run-part .ensures))  -- loop-again
+    (λ c. search needs)  -- loop-less-2
+    (λ c.
+    let the-loop = c .before .before .before .before .before .before .before .before .before .before .before .before .before .before .loop in
+    let the-run-part = c .before .before .before .before .before .run-part in
+    (the-loop .inv .0, the-run-part .kept .1 .1 .0 ∙ the-loop .inv .1, the-run-part .kept .1 .1 .1 .0 ∙ the-loop .inv .2, the-run-part .ensures))  -- loop-again-2
     (λ c κs. search needs)  -- end-script-requires
     (λ c.
     let the-loop = c .before .before .loop in

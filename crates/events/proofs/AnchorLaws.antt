@@ -12,7 +12,6 @@ use Rattle.machine.specs.Terms.{toStart, noAction, noTransition}
 use Rattle.machine.specs.Tables.{anchorAt}
 use Rattle.machine.specs.Events.{Run, anchorState, transition, beginsAt, endsAt, follows, anchorTo, anchorChanged, anchorMoved}
 use Rattle.machine.specs.declared.Anchors.{Anchors}
-use Rattle.machine.specs.declared.Document.{Document}
 use Rattle.events.specs.Parts.{selects, dueNext}
 
 module _ (clock : ℕ) where
@@ -36,12 +35,11 @@ changed-if true aborting a new r = refl
 changed-if false aborting a new r = refl
 
 -- one anchor, by its transition
-pub anchor-moved : (d : Document) (anchors : Anchors) (moves : ℕ → ℕ → ℕ → Bool) (aborting : Bool) (n new a : ℕ) (r : Run) {z : Run} (change : ℕ)
-    → d .anchors ≡ anchors
+pub anchor-moved : (anchors : Anchors) (moves : ℕ → ℕ → ℕ → Bool) (aborting : Bool) (n new a : ℕ) (r : Run) {z : Run} (change : ℕ)
     → change ≡ (if anchorAt anchors a .media =? n && moves (anchorAt anchors a .begin) (anchorAt anchors a .end) (anchorState (r .state) a) then transition aborting (anchorState (r .state) a) new else noTransition)
-    → z ≡ anchorChanged a new change r → z ≡ anchorMoved d moves aborting n new a r
+    → z ≡ anchorChanged a new change r → z ≡ anchorMoved anchors moves aborting n new a r
 unfolding anchorMoved
-anchor-moved d anchors moves aborting n new a r change s e p = p ∙ rw (s, e) (sym (changed-if _ aborting a new r))
+anchor-moved anchors moves aborting n new a r change e p = p ∙ rw e (sym (changed-if _ aborting a new r))
 
 -- one anchor more is looked at, for the media whose next clock is its time
 pub marked-due : (medias times clocks : List ℕ) (a m : ℕ) (marks : List Bool) (is-due : Bool) → m < 256 → m ≡ getD medias a 0 → is-due ≡ (getD times a 0 =? getD clocks m 0 + 1)

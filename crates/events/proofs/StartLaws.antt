@@ -31,7 +31,7 @@ one-level d zero n r h = absurd (omega arith)
 -- what a start does to what it reaches
 abbrev pub startFrom : Document → (ℕ → Run → Run) → Start → Run → Run
 startFrom d start Nothing r = r
-startFrom d start (Media n) r = mediaMoved d toStart n r
+startFrom d start (Media n) r = mediaMoved (d .anchors) toStart n r
 startFrom d start (Context n) r = contextStarted d start n r
 startFrom d start (Switch n) r = switchStarted d start n r
 
@@ -48,16 +48,16 @@ and-left : (a b : Bool) → a && b ≡ true → a ≡ true
 and-left true b e = refl
 and-left false b e = e
 
-pub bind-own : (d : Document) (values : List ℤ) (n b : ℕ) → b ≡ foundBind d values n → b < d .binds .count → bindAt (d .binds) b .switch ≡ n
+pub bind-own : (d : Document) (values : List ℤ) (n b : ℕ) → b ≡ foundBind (d .binds) (d .rules) values n → b < d .binds .count → bindAt (d .binds) b .switch ≡ n
 unfolding foundBind if_then_else_ bindHolds
 bind-own d values n b e h =
     let count = d .binds .count in
-    let i = first (bindHolds d values n) count 0 in
+    let i = first (bindHolds (d .binds) (d .rules) values n) count 0 in
     let j = first (isDefault (d .binds) n) count 0 in
     by-test (i <? count)
     (λ t.
     let s : b ≡ i = e ∙ rw t in
-    rw s (eqb-true _ _ (and-left _ _ (and-left _ _ (first-found (bindHolds d values n) count 0 (omega (arith, ltb-true i count t)))))))
+    rw s (eqb-true _ _ (and-left _ _ (and-left _ _ (first-found (bindHolds (d .binds) (d .rules) values n) count 0 (omega (arith, ltb-true i count t)))))))
     (λ t.
     let s : b ≡ j = e ∙ rw t in
     rw s (eqb-true _ _ (and-left _ _ (first-found (isDefault (d .binds) n) count 0 (omega arith)))))
@@ -111,7 +111,7 @@ module _ (d : Document) (sound : Sound d) (n : ℕ) where
   -- ---- the bind that switch n finds
 
   module _ (values : List ℤ) where
-    bind-deeper : foundBind d values n < d .binds .count → Deeper n (bindAt (d .binds) (foundBind d values n) .child)
+    bind-deeper : foundBind (d .binds) (d .rules) values n < d .binds .count → Deeper n (bindAt (d .binds) (foundBind (d .binds) (d .rules) values n) .child)
     bind-deeper h = record {
       later = omega (arith, sound .bind-later _ h, bind-own d values n _ refl h);
       below = omega (arith, sound .bind-child _ h, sound .nodes .few);
@@ -120,7 +120,7 @@ module _ (d : Document) (sound : Sound d) (n : ℕ) where
     pub bind-reaches : (states : List ℕ) (start : Start) → start ≡ bindStart d values states n → Reaches (Deeper n) start
     unfolding bindStart if_then_else_
     bind-reaches states start e =
-        rw e (by-test (foundBind d values n <? d .binds .count) (λ f. rw f (start-reaches (Deeper n) _ states _ _ refl (bind-deeper (ltb-true _ _ f)))) (λ f. rw f tt))
+        rw e (by-test (foundBind (d .binds) (d .rules) values n <? d .binds .count) (λ f. rw f (start-reaches (Deeper n) _ states _ _ refl (bind-deeper (ltb-true _ _ f)))) (λ f. rw f tt))
 
   pub bind-started : (levels : ℕ) → 64 ≤ n + (levels + 1) → (r : Run) (start : Start) → start ≡ bindStart d (r .state .«property_value») (r .state .«node_state») n
       → switchStarted d (started d levels) n r ≡ startFrom d (started d (levels - 1)) start r
@@ -128,8 +128,8 @@ module _ (d : Document) (sound : Sound d) (n : ℕ) where
   bind-started levels b r start e =
       let values = r .state .«property_value» in
       rw e
-      (by-test (foundBind d values n <? d .binds .count)
+      (by-test (foundBind (d .binds) (d .rules) values n <? d .binds .count)
       (λ f.
       let deeper = bind-deeper values (ltb-true _ _ f) in
-      rw f (started-from d levels (bindAt (d .binds) (foundBind d values n) .child) r (omega (arith, deeper))))
+      rw f (started-from d levels (bindAt (d .binds) (foundBind (d .binds) (d .rules) values n) .child) r (omega (arith, deeper))))
       (λ f. rw f))

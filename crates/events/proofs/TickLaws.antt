@@ -14,6 +14,7 @@ use Rattle.machine.specs.Terms.{media, sleeping, occurring, noAction, toStart, 
 use Rattle.machine.specs.Tables.{typeOf, durationOf}
 use Rattle.machine.specs.Events.{Run, withState, nodeState, nodeClock, anchorState, awake, beginsAt, endsAt, nodeTo, nodeChanged, anchorTo, anchorChanged, anchorMoved, anchorsMoved, mediaTo, mediaMoved}
 use Rattle.machine.specs.Tick.{withClock, anchorsPassed, passed, tickedOne}
+use Rattle.machine.specs.declared.Anchors.{Anchors}
 use Rattle.machine.specs.declared.Document.{Document}
 use Rattle.machine.proofs.Keep.{chosen}
 use Rattle.events.specs.Parts.{selects, dueNext, advancing}
@@ -30,7 +31,7 @@ low-clock type state clock e = low (type =? media && state =? occurring) e
 
 module _ (d : Document) (n : ℕ) (r : Run) where
   pub ticked-end : {y z : Run} → advancing (typeOf (d .nodes) n) (nodeState (r .state) n) (nodeClock (r .state) n) ≡ true → durationOf (d .nodes) n ≡ nodeClock (r .state) n + 1
-      → y ≡ anchorsPassed d n (nodeClock (r .state) n + 1) r → z ≡ mediaMoved d toStop n y → z ≡ tickedOne d n r
+      → y ≡ anchorsPassed d n (nodeClock (r .state) n + 1) r → z ≡ mediaMoved (d .anchors) toStop n y → z ≡ tickedOne d n r
   unfolding tickedOne advancing passed if_then_else_
   ticked-end e at p q = rw (e, eq-eqb _ _ at, ← p) q
 
@@ -44,17 +45,17 @@ module _ (d : Document) (n : ℕ) (r : Run) where
   ticked-not e = rw e
 
   -- the anchors that end, and then those that begin
-  pub anchors-pass : (clock : ℕ) {x y : Run} → x ≡ anchorsMoved d (selects noAction clock) false n sleeping (withState (withClock n clock (r .state)) (r .log) r)
-      → y ≡ anchorsMoved d (selects toStart clock) false n occurring x → y ≡ anchorsPassed d n clock r
+  pub anchors-pass : (clock : ℕ) {x y : Run} → x ≡ anchorsMoved (d .anchors) (selects noAction clock) false n sleeping (withState (withClock n clock (r .state)) (r .log) r)
+      → y ≡ anchorsMoved (d .anchors) (selects toStart clock) false n occurring x → y ≡ anchorsPassed d n clock r
   unfolding anchorsPassed selects if_then_else_
-  anchors-pass clock p q = q ∙ ap (anchorsMoved d (beginsAt clock) false n occurring) p
+  anchors-pass clock p q = q ∙ ap (anchorsMoved (d .anchors) (beginsAt clock) false n occurring) p
 
 -- ---- a media leaves the clocks of the others
 
-anchors-leave-clocks : (d : Document) (moves : ℕ → ℕ → ℕ → Bool) (aborting : Bool) (n new : ℕ) (r : Run) → anchorsMoved d moves aborting n new r .state .«node_clock» ≡ r .state .«node_clock»
+anchors-leave-clocks : (anchors : Anchors) (moves : ℕ → ℕ → ℕ → Bool) (aborting : Bool) (n new : ℕ) (r : Run) → anchorsMoved anchors moves aborting n new r .state .«node_clock» ≡ r .state .«node_clock»
 unfolding anchorsMoved anchorMoved anchorTo anchorChanged
-anchors-leave-clocks d moves aborting n new r =
-    ascending-turns (λ k (y : Run). y .state .«node_clock» ≡ r .state .«node_clock») (d .anchors .count) r refl
+anchors-leave-clocks anchors moves aborting n new r =
+    ascending-turns (λ k (y : Run). y .state .«node_clock» ≡ r .state .«node_clock») (anchors .count) r refl
     (λ k y h p. chosen (λ (z : Run). z .state .«node_clock» ≡ r .state .«node_clock») _ (λ _. chosen (λ (z : Run). z .state .«node_clock» ≡ r .state .«node_clock») _ (λ _. p) (λ _. p)) (λ _. p))
 
 module _ (d : Document) (n j : ℕ) (other : j ≡ n → ⊥) where
@@ -62,15 +63,15 @@ module _ (d : Document) (n j : ℕ) (other : j ≡ n → ⊥) where
   Left : Run → Run → Type 0
   Left r z = nodeClock (z .state) j ≡ nodeClock (r .state) j
 
-  anchors-leave : (moves : ℕ → ℕ → ℕ → Bool) (aborting : Bool) (new : ℕ) (r : Run) → Left r (anchorsMoved d moves aborting n new r)
+  anchors-leave : (moves : ℕ → ℕ → ℕ → Bool) (aborting : Bool) (new : ℕ) (r : Run) → Left r (anchorsMoved (d .anchors) moves aborting n new r)
   unfolding Left
-  anchors-leave moves aborting new r = ap (λ (clocks : List ℕ). getD clocks j 0) (anchors-leave-clocks d moves aborting n new r)
+  anchors-leave moves aborting new r = ap (λ (clocks : List ℕ). getD clocks j 0) (anchors-leave-clocks (d .anchors) moves aborting n new r)
 
   node-leaves : (aborting : Bool) (new : ℕ) (r : Run) → Left r (nodeTo aborting n new r)
   unfolding Left nodeTo nodeChanged
   node-leaves aborting new r = chosen (Left r) _ (λ _. refl) (λ _. getD-set-other (r .state .«node_clock») n j _ 0 other)
 
-  media-leaves : (action : ℕ) (r : Run) → Left r (mediaMoved d action n r)
+  media-leaves : (action : ℕ) (r : Run) → Left r (mediaMoved (d .anchors) action n r)
   unfolding Left mediaMoved mediaTo
   media-leaves action r =
       chosen (Left r) _ (λ _. refl)
@@ -98,19 +99,19 @@ stays-with true b c e = rw e (and-false b)
 stays-with false b c e = refl
 
 -- media n is not marked among those whose time comes with the clock after this one
-module _ (d : Document) (clocks : List ℕ) (n clock : ℕ) (marks : List Bool) (low : n < 256) (same : clock ≡ getD clocks n 0) (none : getD marks n false ≡ false) (new : ℕ) (r : Run) where
-  unmarked : (times : List ℕ) → Marked (dueNext (d .anchors .media) times clocks) (d .anchors .count) marks → (a : ℕ) → a < d .anchors .count
-      → getD (d .anchors .media) a 0 =? n && getD times a 0 =? clock + 1 ≡ false
+module _ (anchors : Anchors) (clocks : List ℕ) (n clock : ℕ) (marks : List Bool) (low : n < 256) (same : clock ≡ getD clocks n 0) (none : getD marks n false ≡ false) (new : ℕ) (r : Run) where
+  unmarked : (times : List ℕ) → Marked (dueNext (anchors .media) times clocks) (anchors .count) marks → (a : ℕ) → a < anchors .count
+      → getD (anchors .media) a 0 =? n && getD times a 0 =? clock + 1 ≡ false
   unfolding dueNext
-  unmarked times m a h = rw same (none-some (dueNext (d .anchors .media) times clocks n) _ (sym (m .marked n low) ∙ none) a h)
+  unmarked times m a h = rw same (none-some (dueNext (anchors .media) times clocks n) _ (sym (m .marked n low) ∙ none) a h)
 
-  pub none-end : Marked (dueNext (d .anchors .media) (d .anchors .ends) clocks) (d .anchors .count) marks → r ≡ anchorsMoved d (selects noAction (clock + 1)) false n new r
+  pub none-end : Marked (dueNext (anchors .media) (anchors .ends) clocks) (anchors .count) marks → r ≡ anchorsMoved anchors (selects noAction (clock + 1)) false n new r
   unfolding anchorsMoved anchorMoved selects endsAt if_then_else_
   none-end m =
       sym
-      (ascending-idle (anchorMoved d (endsAt (clock + 1)) false n new) (d .anchors .count) r
-      (λ a h. rw (stays-with (getD (d .anchors .media) a 0 =? n) (awake (anchorState (r .state) a)) (getD (d .anchors .ends) a 0 =? clock + 1) (unmarked _ m a h))))
+      (ascending-idle (anchorMoved anchors (endsAt (clock + 1)) false n new) (anchors .count) r
+      (λ a h. rw (stays-with (getD (anchors .media) a 0 =? n) (awake (anchorState (r .state) a)) (getD (anchors .ends) a 0 =? clock + 1) (unmarked _ m a h))))
 
-  pub none-begin : Marked (dueNext (d .anchors .media) (d .anchors .begins) clocks) (d .anchors .count) marks → r ≡ anchorsMoved d (selects toStart (clock + 1)) false n new r
+  pub none-begin : Marked (dueNext (anchors .media) (anchors .begins) clocks) (anchors .count) marks → r ≡ anchorsMoved anchors (selects toStart (clock + 1)) false n new r
   unfolding anchorsMoved anchorMoved selects beginsAt if_then_else_
-  none-begin m = sym (ascending-idle (anchorMoved d (beginsAt (clock + 1)) false n new) (d .anchors .count) r (λ a h. rw (unmarked (d .anchors .begins) m a h)))
+  none-begin m = sym (ascending-idle (anchorMoved anchors (beginsAt (clock + 1)) false n new) (anchors .count) r (λ a h. rw (unmarked (anchors .begins) m a h)))

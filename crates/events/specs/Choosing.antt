@@ -27,5 +27,5 @@ portStart nodes ports states n p = if portAt ports p .context =? n then startOf 
 -- what switch n starts by the bind that it finds
 unfoldable pub bindStart : Document → List ℤ → List ℕ → ℕ → Start
 bindStart d values states n =
-    let b = foundBind d values n in
+    let b = foundBind (d .binds) (d .rules) values n in
     if b <? d .binds .count then startOf (d .nodes) states (bindAt (d .binds) b .child) else Start.Nothing

@@ -29,6 +29,7 @@ pub fn act(d: Document, w: Work, log: &mut [u8], action: u8, target: usize, valu
     requires { ⌜ Sound d × Applicable d action target ⌝ }
     ensures { λ r. ⌜ on r (now (log .exit)) ≡ acted d action target value (on w (now (log .entry))) ⌝ }
 {
+    let nodes = d.nodes;
     let v = perform(d, w, &mut *log, action, target, value);
-    settle(d.nodes, v, log, action, target)
+    settle(nodes, v, log, action, target)
 }

@@ -13,7 +13,6 @@ ghost use Rattle.base.specs.Tests.{if_then_else_, _=?_};
 ghost use Rattle.base.specs.Marks.{Marked};
 ghost use Rattle.machine.specs.Terms.{toAbort, noTransition};
 ghost use Rattle.machine.specs.Events.{transition, anchorsMoved};
-ghost use Rattle.machine.specs.declared.Document.{Document};
 ghost use Rattle.events.specs.Running.{on};
 ghost use Rattle.events.specs.Parts.{selects, dueNext};
 
@@ -66,7 +65,7 @@ pub fn move_anchors(
     state: u8,
 ) -> Work
     requires { ⌜ anchors .count ≤ 128 ⌝ }
-    ensures { λ r. ⌜ ((d : Document) → d .anchors ≡ anchors → on r (now (log .exit)) ≡ anchorsMoved d (selects action clock) (action =? toAbort) n state (on w (now (log .entry)))) ⌝ }
+    ensures { λ r. ⌜ on r (now (log .exit)) ≡ anchorsMoved anchors (selects action clock) (action =? toAbort) n state (on w (now (log .entry))) ⌝ }
 {
     let mut t = w;
     let end = anchors.count;

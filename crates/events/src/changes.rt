@@ -53,7 +53,8 @@ pub fn node_to(w: Work, log: &mut [u8], aborting: bool, n: usize, state: u8) -> 
     requires { ⌜ n < 64 ⌝ }
     ensures { λ r. ⌜ on r (now (log .exit)) ≡ nodeTo aborting n state (on w (now (log .entry))) ⌝ }
 {
-    let change = transition_of(aborting, w.node_state[n], state);
+    let states = w.node_state;
+    let change = transition_of(aborting, states[n], state);
     if change == 0 {
         return w;
     }

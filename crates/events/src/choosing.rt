@@ -73,7 +73,7 @@ fn bind_rule_holds(rules: Rules, values: [i32; 32], rule: u8) -> bool
 // The first bind of switch n whose rule holds; the number of binds where there is none.
 fn first_holding(binds: Binds, rules: Rules, values: [i32; 32], n: usize) -> usize
     requires { ⌜ (binds .count ≤ 64) × SoundRules 32 rules × KnownRules binds rules ⌝ }
-    ensures { λ r. ⌜ ((d : Document) → d .binds ≡ binds → d .rules ≡ rules → r ≡ first (bindHolds d values n) (d .binds .count) 0) ⌝ }
+    ensures { λ r. ⌜ r ≡ first (bindHolds binds rules values n) (binds .count) 0 ⌝ }
 {
     let end = binds.count;
     let mut next = 0;
@@ -111,7 +111,7 @@ fn first_default(binds: Binds, n: usize) -> usize
 // The bind that switch n finds: the first whose rule holds, else the default; the number of binds where there is none.
 fn found_bind(binds: Binds, rules: Rules, values: [i32; 32], n: usize) -> usize
     requires { ⌜ (binds .count ≤ 64) × SoundRules 32 rules × KnownRules binds rules ⌝ }
-    ensures { λ r. ⌜ ((d : Document) → d .binds ≡ binds → d .rules ≡ rules → r ≡ foundBind d values n) ⌝ }
+    ensures { λ r. ⌜ r ≡ foundBind binds rules values n ⌝ }
 {
     let b = first_holding(binds, rules, values, n);
     if b < binds.count {

@@ -28,9 +28,10 @@ fn line_first(action: u8) -> bool
 // An action on media n, with its anchors.
 pub fn move_media(anchors: Anchors, w: Work, log: &mut [u8], action: u8, n: usize) -> Work
     requires { ⌜ (anchors .count ≤ 128) × (n < 64) × (1 ≤ action) × (action ≤ 5) ⌝ }
-    ensures { λ r. ⌜ ((d : Document) → d .anchors ≡ anchors → on r (now (log .exit)) ≡ mediaMoved d action n (on w (now (log .entry)))) ⌝ }
+    ensures { λ r. ⌜ on r (now (log .exit)) ≡ mediaMoved anchors action n (on w (now (log .entry))) ⌝ }
 {
-    let old = w.node_state[n];
+    let states = w.node_state;
+    let old = states[n];
     let new = next_state(old, action);
     if old == new {
         return w;

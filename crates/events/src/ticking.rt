@@ -67,8 +67,9 @@ pub fn tick(d: Document, w: Work, log: &mut [u8]) -> Work
     requires { ⌜ Sound d ⌝ }
     ensures { λ r. ⌜ on r (now (log .exit)) ≡ ticked d (on w (now (log .entry))) ⌝ }
 {
+    let nodes = d.nodes;
     let v = advance_all(d, w, &mut *log);
-    settle(d.nodes, v, log, 0, 0)
+    settle(nodes, v, log, 0, 0)
 }
 
 // A key logs one line.

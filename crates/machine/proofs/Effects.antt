@@ -142,7 +142,7 @@ module _ (d : Document) (moves : ℕ → ℕ → ℕ → Bool) (n : ℕ) where
     pub rest : (a : ℕ) → k ≤ a → anchorState (y .state) a ≡ anchorState (x .state) a
 
   module _ (aborting : Bool) (new : ℕ) (x : Run) where
-    one-passes : (k : ℕ) (y : Run) → k < length (x .state .«anchor_state») → Passed new x k y → Passed new x (suc k) (anchorMoved d moves aborting n new k y)
+    one-passes : (k : ℕ) (y : Run) → k < length (x .state .«anchor_state») → Passed new x k y → Passed new x (suc k) (anchorMoved (d .anchors) moves aborting n new k y)
     unfolding anchorMoved moving if_then_else_
     one-passes k y h m =
         let same : moving y k ≡ moving x k = rw (m .rest k (omega arith)) in
@@ -168,7 +168,7 @@ module _ (d : Document) (moves : ℕ → ℕ → ℕ → Bool) (n : ℕ) where
           rest = λ a l. m .rest a (omega arith);
         }))
 
-    pub anchors-pass : d .anchors .count ≤ length (x .state .«anchor_state») → Passed new x (d .anchors .count) (anchorsMoved d moves aborting n new x)
+    pub anchors-pass : d .anchors .count ≤ length (x .state .«anchor_state») → Passed new x (d .anchors .count) (anchorsMoved (d .anchors) moves aborting n new x)
     unfolding anchorsMoved
     anchors-pass h =
         ascending-turns (Passed new x) (d .anchors .count) x

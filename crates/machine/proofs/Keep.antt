@@ -53,7 +53,7 @@ module _ (d : Document) (P : Run → Type 0) where
 
   -- the steps of a node, each whole
   pub record Steps : Type 0 where
-    pub media : (action n : ℕ) (r : Run) → toStart ≤ action → n < d .nodes .count → isMedia (d .nodes) n ≡ true → P r → P (mediaMoved d action n r)
+    pub media : (action n : ℕ) (r : Run) → toStart ≤ action → n < d .nodes .count → isMedia (d .nodes) n ≡ true → P r → P (mediaMoved (d .anchors) action n r)
     pub tick : (n : ℕ) (r : Run) → n < d .nodes .count → P r → P (tickedOne d n r)
     pub composite : (aborting : Bool) (c new : ℕ) (r : Run) → c < d .nodes .count → isMedia (d .nodes) c ≡ false → new ≤ paused → P r → P (nodeTo aborting c new r)
     pub property : (p : ℕ) (value : ℤ) (r : Run) → p < d .properties → P r → P (setProperty p value r)
@@ -69,11 +69,11 @@ module _ (d : Document) (P : Run → Type 0) where
   each n keep r p = ascending-turns (λ _. P) n r p keep
 
   module _ (k : Primitives) where
-    anchors-keep : (moves : ℕ → ℕ → ℕ → Bool) (aborting : Bool) (n new : ℕ) (r : Run) → P r → P (anchorsMoved d moves aborting n new r)
+    anchors-keep : (moves : ℕ → ℕ → ℕ → Bool) (aborting : Bool) (n new : ℕ) (r : Run) → P r → P (anchorsMoved (d .anchors) moves aborting n new r)
     unfolding anchorsMoved anchorMoved
     anchors-keep moves aborting n new = each _ (λ a r h p. chosen P _ (λ _. k .anchor aborting a new r h p) (λ _. p))
 
-    media-keeps : (action n : ℕ) (r : Run) → n < d .nodes .count → P r → P (mediaMoved d action n r)
+    media-keeps : (action n : ℕ) (r : Run) → n < d .nodes .count → P r → P (mediaMoved (d .anchors) action n r)
     unfolding mediaMoved mediaTo
     media-keeps action n r h p =
         chosen P _ (λ _. p)

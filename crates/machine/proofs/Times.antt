@@ -175,7 +175,7 @@ module _ (d : Document) (sound : Sound d) where
     clocks-room : n < length (x .state .«node_clock»)
     clocks-room = omega (arith, sound .nodes .few, p .nodes .1 .0 .len)
 
-    moves : Moved action n new x (mediaTo d action n new x)
+    moves : Moved action n new x (mediaTo (d .anchors) action n new x)
     unfolding mediaTo moving
     moves =
         let aborting = action =? toAbort in
@@ -187,7 +187,7 @@ module _ (d : Document) (sound : Sound d) where
         let w = anchors-pass d test n aborting new y (rw e room) in
         record { node = rw (w .states, w .clocks) (node-moves aborting n new x states-room clocks-room); anchors = λ a l. w .done a l ∙ rw e })
         (λ _.
-        let y = anchorsMoved d test aborting n new x in
+        let y = anchorsMoved (d .anchors) test aborting n new x in
         let w = anchors-pass d test n aborting new x room in
         record {
           node = moved-from (w .states) (w .clocks) (node-moves aborting n new y (rw (w .states) states-room) (rw (w .clocks) clocks-room));
@@ -240,7 +240,7 @@ module _ (d : Document) (sound : Sound d) where
       anchors = anchors-again n x y (m .node .only) anchors own (λ a l u. m .anchors a l ∙ rw (ne-eqb (owner a) n u));
     }
 
-  media-timed : (action n : ℕ) (r : Run) → toStart ≤ action → n < d .nodes .count → isMedia (d .nodes) n ≡ true → Shaped d (r .state) → Timed d (r .state) → Timed d (mediaMoved d action n r .state)
+  media-timed : (action n : ℕ) (r : Run) → toStart ≤ action → n < d .nodes .count → isMedia (d .nodes) n ≡ true → Shaped d (r .state) → Timed d (r .state) → Timed d (mediaMoved (d .anchors) action n r .state)
   unfolding mediaMoved
   media-timed action n r one h type s p =
       chosen (λ (y : Run). Timed d (y .state)) _ (λ _. p)
@@ -266,7 +266,7 @@ module _ (d : Document) (sound : Sound d) where
     next = nodeClock (r .state) n + 1
 
     abbrev y : Run
-    y = anchorsMoved d (endsAt next) false n sleeping (withState (withClock n next (r .state)) (r .log) r)
+    y = anchorsMoved (d .anchors) (endsAt next) false n sleeping (withState (withClock n next (r .state)) (r .log) r)
 
     abbrev z : Run
     z = anchorsPassed d n next r

@@ -12,6 +12,9 @@ use Rattle.machine.specs.Records.{isDefault}
 use Rattle.machine.specs.Deciding.{ruleHolds}
 use Rattle.machine.specs.Log.{Log, line, logged}
 use Rattle.machine.specs.declared.Nodes.{Nodes}
+use Rattle.machine.specs.declared.Anchors.{Anchors}
+use Rattle.machine.specs.declared.Rules.{Rules}
+use Rattle.machine.specs.declared.Binds.{Binds}
 use Rattle.machine.specs.declared.Document.{Document}
 use Rattle.machine.specs.declared.State.{State}
 
@@ -160,48 +163,48 @@ unfoldable pub follows : ℕ → ℕ → ℕ → ℕ → Bool
 follows action = if action =? toStart then beginsAt 0 else isAwake
 
 -- anchor a, if it is one of media n that move, goes to the state
-unfoldable pub anchorMoved : Document → (ℕ → ℕ → ℕ → Bool) → Bool → ℕ → ℕ → ℕ → Run → Run
-anchorMoved d moves aborting n new a r =
-    let anchor = anchorAt (d .anchors) a in
+unfoldable pub anchorMoved : Anchors → (ℕ → ℕ → ℕ → Bool) → Bool → ℕ → ℕ → ℕ → Run → Run
+anchorMoved anchors moves aborting n new a r =
+    let anchor = anchorAt anchors a in
     if anchor .media =? n && moves (anchor .begin) (anchor .end) (anchorState (r .state) a)
     then anchorTo aborting a new r
     else r
 
 -- the anchors of media n that move go to the state, "in id order"
-unfoldable pub anchorsMoved : Document → (ℕ → ℕ → ℕ → Bool) → Bool → ℕ → ℕ → Run → Run
-anchorsMoved d moves aborting n new r = ascending (anchorMoved d moves aborting n new) (d .anchors .count) r
+unfoldable pub anchorsMoved : Anchors → (ℕ → ℕ → ℕ → Bool) → Bool → ℕ → ℕ → Run → Run
+anchorsMoved anchors moves aborting n new r = ascending (anchorMoved anchors moves aborting n new) (anchors .count) r
 
 -- "Anchor lines in id order follow the media's line for start and resume, and precede it for stop, abort and pause."
 unfoldable pub lineFirst : ℕ → Bool
 lineFirst action = action =? toStart || action =? toResume
 
-unfoldable pub mediaTo : Document → ℕ → ℕ → ℕ → Run → Run
-mediaTo d action n new r =
+unfoldable pub mediaTo : Anchors → ℕ → ℕ → ℕ → Run → Run
+mediaTo anchors action n new r =
     let aborting = action =? toAbort in
     if lineFirst action
-    then anchorsMoved d (follows action) aborting n new (nodeTo aborting n new r)
-    else nodeTo aborting n new (anchorsMoved d (follows action) aborting n new r)
+    then anchorsMoved anchors (follows action) aborting n new (nodeTo aborting n new r)
+    else nodeTo aborting n new (anchorsMoved anchors (follows action) aborting n new r)
 
 -- an action on media n
-unfoldable pub mediaMoved : Document → ℕ → ℕ → Run → Run
-mediaMoved d action n r =
+unfoldable pub mediaMoved : Anchors → ℕ → ℕ → Run → Run
+mediaMoved anchors action n r =
     let old = nodeState (r .state) n in
     let new = nextState old action in
-    if old =? new then r else mediaTo d action n new r
+    if old =? new then r else mediaTo anchors action n new r
 
 -- ---- start
 
 -- bind b is of switch n and its rule holds
-unfoldable pub bindHolds : Document → List ℤ → ℕ → ℕ → Bool
-bindHolds d values n b =
-    let bind = bindAt (d .binds) b in
-    bind .switch =? n && not (bind .rule =? noId) && ruleHolds (d .rules) values (bind .rule)
+unfoldable pub bindHolds : Binds → Rules → List ℤ → ℕ → ℕ → Bool
+bindHolds binds rules values n b =
+    let bind = bindAt binds b in
+    bind .switch =? n && not (bind .rule =? noId) && ruleHolds rules values (bind .rule)
 
 -- "its first bind whose rule holds, else its default, else nothing": the bind that switch n finds; the number of binds where there is none
-unfoldable pub foundBind : Document → List ℤ → ℕ → ℕ
-foundBind d values n =
-    let b = first (bindHolds d values n) (d .binds .count) 0 in
-    if b <? d .binds .count then b else first (isDefault (d .binds) n) (d .binds .count) 0
+unfoldable pub foundBind : Binds → Rules → List ℤ → ℕ → ℕ
+foundBind binds rules values n =
+    let b = first (bindHolds binds rules values n) (binds .count) 0 in
+    if b <? binds .count then b else first (isDefault binds n) (binds .count) 0
 
 -- where `start` starts a child: "A sleeping context starts its ports' children in record order"
 unfoldable pub portStarted : Document → (ℕ → Run → Run) → ℕ → ℕ → Run → Run
@@ -213,13 +216,13 @@ contextStarted d start n r = ascending (portStarted d start n) (d .ports .count)
 -- "and a sleeping switch starts the child of its first bind whose rule holds"
 unfoldable pub switchStarted : Document → (ℕ → Run → Run) → ℕ → Run → Run
 switchStarted d start n r =
-    let b = foundBind d (r .state .«property_value») n in
+    let b = foundBind (d .binds) (d .rules) (r .state .«property_value») n in
     if b <? d .binds .count then start (bindAt (d .binds) b .child) r else r
 
 -- "Start of an awake composite does nothing."
 unfoldable pub startedOne : Document → (ℕ → Run → Run) → ℕ → Run → Run
 startedOne d start n r =
-    if isMedia (d .nodes) n then mediaMoved d toStart n r
+    if isMedia (d .nodes) n then mediaMoved (d .anchors) toStart n r
     else if awake (nodeState (r .state) n) then r
     else if typeOf (d .nodes) n =? context then contextStarted d start n r
     else switchStarted d start n r
@@ -241,7 +244,7 @@ isBelow nodes target k = leadsTo nodes target k k
 
 unfoldable pub movedBelow : Document → ℕ → ℕ → ℕ → Run → Run
 movedBelow d action target n r =
-    if isMedia (d .nodes) n && isBelow (d .nodes) target n then mediaMoved d action n r else r
+    if isMedia (d .nodes) n && isBelow (d .nodes) target n then mediaMoved (d .anchors) action n r else r
 
 unfoldable pub allMoved : Document → ℕ → ℕ → Run → Run
 allMoved d action target r = ascending (movedBelow d action target) (d .nodes .count) r

@@ -25,15 +25,15 @@ withClock n clock s = record {
 -- media n comes to the clock: "its awake anchors with end = clock stop in id order, then those with begin = clock start in id order"
 unfoldable pub anchorsPassed : Document → ℕ → ℕ → Run → Run
 anchorsPassed d n clock r =
-    anchorsMoved d (beginsAt clock) false n occurring
-    (anchorsMoved d (endsAt clock) false n sleeping
+    anchorsMoved (d .anchors) (beginsAt clock) false n occurring
+    (anchorsMoved (d .anchors) (endsAt clock) false n sleeping
     (withState (withClock n clock (r .state)) (r .log) r))
 
 -- "then if duration = clock it stops as by the command"
 unfoldable pub passed : Document → ℕ → ℕ → Run → Run
 passed d n clock r =
     if durationOf (d .nodes) n =? clock
-    then mediaMoved d toStop n (anchorsPassed d n clock r)
+    then mediaMoved (d .anchors) toStop n (anchorsPassed d n clock r)
     else anchorsPassed d n clock r
 
 -- "each occurring media .. adds one to its clock"; "A clock at 65,535 stays, and that media's anchors and end aren't looked at."

@@ -14,7 +14,7 @@ act-spec =
     (λ c κs. search needs)  -- settle-requires
     (λ c. search needs)  -- same-length
     (λ c.
-    let the-entry = c .before .before .before .before .before .before .before .before .before in
+    let the-entry = c .before .before .before .before .before .before .before .before .before .before in
     let the-perform = c .before .before .before .before .before .before .perform in
     let the-settle = c .before .before .settle in
     rw (← (rw (toZ-ofZ (the-entry .fits .value)) at (the-perform .ensures))) (the-settle .ensures))  -- returns

@@ -2,14 +2,13 @@
 use Rattle.events.proofs.Prelude.{_≡_, refl, _∙_, _≤_, _-_, length, ascending, ascending-none, ascending-more, ascending-done, needs, arith, eq-eqb, ne-eqb, if_then_else_, on}
 use Rattle.base.specs.Tests.{_=?_}
 use Rattle.machine.specs.Events.{anchorMoved, anchorsMoved, anchorChanged}
-use Rattle.machine.specs.declared.Document.{Document}
 use Rattle.events.specs.Parts.{selects}
 use Rattle.events.proofs.AnchorLaws.{anchor-moved}
 use Rattle.events.proofs.anchors.move_anchors.Statement.{statement}
 use Rattle.events.proofs.anchors.move_anchors.Tie as tie
 
 abbrev Inv-loop : tie.InvT-loop
-Inv-loop log₀ action clock n state anchors t₀ end next₀ log t next = (next ≤ end) × (length log ≡ length log₀) × ((d : Document) → d .anchors ≡ anchors → on t log ≡ ascending (anchorMoved d (selects action clock) (action =? 3) n state) next (on t₀ log₀))
+Inv-loop log₀ action clock n state anchors t₀ end next₀ log t next = (next ≤ end) × (length log ≡ length log₀) × (on t log ≡ ascending (anchorMoved anchors (selects action clock) (action =? 3) n state) next (on t₀ log₀))
 
 abbrev μ-loop : tie.MeasureT-loop
 μ-loop log₀ action clock n state anchors t₀ end next₀ log t next = end - next
@@ -20,7 +19,7 @@ move-anchors-spec =
     tie.close
     (tie.spec
     Inv-loop μ-loop
-    (λ c. (omega arith, refl, λ d e. ascending-none _ _))  -- loop-holds
+    (λ c. (omega arith, refl, ascending-none _ _))  -- loop-holds
     (λ c. search needs)  -- add-next
     (λ c. search needs)  -- element-copy-out-anchor-transition
     (λ c. search needs)  -- mul-anchor-transition
@@ -44,17 +43,17 @@ move-anchors-spec =
     let the-anchor-transition = c .before .before .before .before .before .before .before .anchor-transition in
     let the-if1 = c .before .before .before .before .before .before .if1 in
     let the-count-after = c .count-after in
-    (omega arith, the-emit .kept .0 ∙ the-loop .inv .1, λ d e. ascending-more _ _ _ (the-loop .inv .2 d e) (anchor-moved _ _ _ _ _ _ _ _ _ e (the-anchor-transition .ensures) (rw (ne-eqb _ _ (the-if1 .taken), ← the-emit .ensures, ← the-count-after .ensures)))))  -- loop-again
+    (omega arith, the-emit .kept .0 ∙ the-loop .inv .1, ascending-more _ _ _ (the-loop .inv .2) (anchor-moved _ _ _ _ _ _ _ _ (the-anchor-transition .ensures) (rw (ne-eqb _ _ (the-if1 .taken), ← the-emit .ensures, ← the-count-after .ensures)))))  -- loop-again
     (λ c. search needs)  -- loop-less-2
     (λ c.
     let the-loop = c .before .before .before .before .before .before .before .loop in
     let the-anchor-transition = c .before .anchor-transition in
     let the-if1 = c .if1 in
-    (omega arith, the-loop .inv .1, λ d e. ascending-more _ _ _ (the-loop .inv .2 d e) (anchor-moved _ _ _ _ _ _ _ _ _ e (the-anchor-transition .ensures) (rw (eq-eqb _ _ (the-if1 .left))))))  -- loop-again-2
+    (omega arith, the-loop .inv .1, ascending-more _ _ _ (the-loop .inv .2) (anchor-moved _ _ _ _ _ _ _ _ (the-anchor-transition .ensures) (rw (eq-eqb _ _ (the-if1 .left))))))  -- loop-again-2
     (λ c.
     let the-loop = c .before .loop in
     the-loop .inv .1)  -- same-length
     (λ c.
     let the-loop = c .before .loop in
-    λ d e. ascending-done _ _ _ _ (rw e (omega arith)) (the-loop .inv .2 d e))  -- returns
+    ascending-done _ _ _ _ (omega arith) (the-loop .inv .2))  -- returns
     )

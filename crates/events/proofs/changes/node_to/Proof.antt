@@ -9,7 +9,7 @@ unfolding if_then_else_ nodeTo nodeChanged
 node-to-spec =
     tie.close
     (tie.spec
-    (λ c. search needs)  -- element-copy-out-transition-of
+    (λ c. search needs)  -- array-read-transition-of
     (λ c κs. search needs)  -- transition-of-requires
     (λ c.
     let the-transition-of = c .before .transition-of in

@@ -1,5 +1,5 @@
 -- `events::choosing::bind_start` meets its contract. Assumes nothing.
-use Rattle.events.proofs.Prelude.{needs, arith, refl, lt-ltb, le-ltb, if_then_else_}
+use Rattle.events.proofs.Prelude.{needs, arith, lt-ltb, le-ltb, if_then_else_}
 use Rattle.rules.specs.Facts.{sound-rules}
 use Rattle.events.specs.Choosing.{bindStart}
 use Rattle.events.proofs.choosing.bind_start.Statement.{statement}
@@ -17,7 +17,7 @@ bind-start-spec =
     let the-found-bind = c .before .found-bind in
     let the-entry = c .before .before .before .before in
     let the-if1 = c .if1 in
-    rw (← the-found-bind .ensures (the-entry .args .d) refl refl, le-ltb _ _ (the-if1 .taken)))  -- returns
+    rw (← the-found-bind .ensures, le-ltb _ _ (the-if1 .taken)))  -- returns
     (λ c.
     let the-entry = c .before .before .before .before in
     omega (arith, the-entry .pre .binds))  -- element-copy-out-index-of
@@ -34,5 +34,5 @@ bind-start-spec =
     let the-if1 = c .before .before .before .before .if1 in
     let the-index-of = c .before .before .index-of in
     let the-start-of = c .start-of in
-    rw (← the-found-bind .ensures (the-entry .args .d) refl refl, lt-ltb _ _ (the-if1 .left), ← the-index-of .ensures .0) (the-start-of .ensures))  -- returns-2
+    rw (← the-found-bind .ensures, lt-ltb _ _ (the-if1 .left), ← the-index-of .ensures .0) (the-start-of .ensures))  -- returns-2
     )

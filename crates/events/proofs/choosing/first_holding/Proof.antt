@@ -1,13 +1,11 @@
 -- `events::choosing::first_holding` meets its contract. Assumes nothing.
-use Rattle.events.proofs.Prelude.{_≡_, sym, ap, _∙_, _≤_, _-_, arith, needs, eq-eqb, ne-eqb, first, first-none, first-skip, first-hit, first-end}
+use Rattle.events.proofs.Prelude.{_≡_, sym, _∙_, _≤_, _-_, arith, needs, eq-eqb, ne-eqb, first, first-none, first-skip, first-hit, first-end}
 use Rattle.machine.specs.Events.{bindHolds}
-use Rattle.machine.specs.declared.Binds.{Binds}
-use Rattle.machine.specs.declared.Document.{Document}
 use Rattle.events.proofs.choosing.first_holding.Statement.{statement}
 use Rattle.events.proofs.choosing.first_holding.Tie as tie
 
 abbrev Inv-loop : tie.InvT-loop
-Inv-loop rules values n binds end next₀ next = (next ≤ end) × ((d : Document) → d .binds ≡ binds → d .rules ≡ rules → first (bindHolds d values n) (d .binds .count) 0 ≡ first (bindHolds d values n) (d .binds .count - next) next)
+Inv-loop rules values n binds end next₀ next = (next ≤ end) × (first (bindHolds binds rules values n) (binds .count) 0 ≡ first (bindHolds binds rules values n) (binds .count - next) next)
 
 abbrev μ-loop : tie.MeasureT-loop
 μ-loop rules values n binds end next₀ next = end - next
@@ -18,7 +16,7 @@ first-holding-spec =
     tie.close
     (tie.spec
     Inv-loop μ-loop
-    (λ c. (omega arith, λ d e f. first-none _ _))  -- loop-holds
+    (λ c. (omega arith, first-none _ _))  -- loop-holds
     (λ c. search needs)  -- add-next
     (λ c. search needs)  -- element-copy-out-index-of
     (λ c κs. search needs)  -- index-of-requires
@@ -33,7 +31,7 @@ first-holding-spec =
     let the-if1 = c .before .before .before .if1 in
     let the-bind-rule-holds = c .before .bind-rule-holds in
     let the-if2 = c .if2 in
-    λ d e f. first-hit _ _ _ (the-loop .inv .1 d e f) (omega (arith, ap (λ (b : Binds). b .count) e)) (rw (e, f, ← the-index-of .ensures .0, eq-eqb _ _ (the-if1 .taken)) (sym (the-bind-rule-holds .ensures) ∙ the-if2 .taken)))  -- returns
+    first-hit _ _ _ (the-loop .inv .1) (omega arith) (rw (← the-index-of .ensures .0, eq-eqb _ _ (the-if1 .taken)) (sym (the-bind-rule-holds .ensures) ∙ the-if2 .taken)))  -- returns
     (λ c. search needs)  -- loop-less
     (λ c.
     let the-loop = c .before .before .before .before .before .before .before .loop in
@@ -41,14 +39,14 @@ first-holding-spec =
     let the-if1 = c .before .before .before .if1 in
     let the-bind-rule-holds = c .before .bind-rule-holds in
     let the-if2 = c .if2 in
-    (omega arith, λ d e f. first-skip _ _ _ (the-loop .inv .1 d e f) (omega (arith, ap (λ (b : Binds). b .count) e)) (rw (e, f, ← the-index-of .ensures .0, eq-eqb _ _ (the-if1 .taken)) (sym (the-bind-rule-holds .ensures) ∙ the-if2 .left))))  -- loop-again
+    (omega arith, first-skip _ _ _ (the-loop .inv .1) (omega arith) (rw (← the-index-of .ensures .0, eq-eqb _ _ (the-if1 .taken)) (sym (the-bind-rule-holds .ensures) ∙ the-if2 .left))))  -- loop-again
     (λ c. search needs)  -- loop-less-2
     (λ c.
     let the-loop = c .before .before .before .before .loop in
     let the-index-of = c .before .index-of in
     let the-if1 = c .if1 in
-    (omega arith, λ d e f. first-skip _ _ _ (the-loop .inv .1 d e f) (omega (arith, ap (λ (b : Binds). b .count) e)) (rw (e, ← the-index-of .ensures .0, ne-eqb _ _ (the-if1 .left)))))  -- loop-again-2
+    (omega arith, first-skip _ _ _ (the-loop .inv .1) (omega arith) (rw (← the-index-of .ensures .0, ne-eqb _ _ (the-if1 .left)))))  -- loop-again-2
     (λ c.
     let the-loop = c .before .loop in
-    λ d e f. first-end _ _ _ (the-loop .inv .1 d e f) (omega (arith, ap (λ (b : Binds). b .count) e)))  -- returns-2
+    first-end _ _ _ (the-loop .inv .1) (omega arith))  -- returns-2
     )

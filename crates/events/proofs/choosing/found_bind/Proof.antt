@@ -1,7 +1,6 @@
 -- `events::choosing::found_bind` meets its contract. Assumes nothing.
-use Rattle.events.proofs.Prelude.{ap, arith, lt-ltb, le-ltb, needs, if_then_else_}
+use Rattle.events.proofs.Prelude.{lt-ltb, le-ltb, needs, if_then_else_}
 use Rattle.machine.specs.Events.{foundBind}
-use Rattle.machine.specs.declared.Binds.{Binds}
 use Rattle.events.proofs.choosing.found_bind.Statement.{statement}
 use Rattle.events.proofs.choosing.found_bind.Tie as tie
 
@@ -13,10 +12,12 @@ found-bind-spec =
     (λ c κs. search needs)  -- first-holding-requires
     (λ c.
     let the-first-holding = c .before .before .first-holding in
-    λ d e f. rw (← the-first-holding .ensures d e f, lt-ltb (the-first-holding .result) (d .binds .count) (omega (arith, ap (λ (b : Binds). b .count) e))))  -- returns
+    let the-if1 = c .if1 in
+    rw (← the-first-holding .ensures, lt-ltb _ _ (the-if1 .taken)))  -- returns
     (λ c κs. search needs)  -- first-default-requires
     (λ c.
     let the-first-holding = c .before .before .before .first-holding in
+    let the-if1 = c .before .if1 in
     let the-first-default = c .first-default in
-    λ d e f. rw (← the-first-holding .ensures d e f, le-ltb (the-first-holding .result) (d .binds .count) (omega (arith, ap (λ (b : Binds). b .count) e)), e) (the-first-default .ensures))  -- returns-2
+    rw (← the-first-holding .ensures, le-ltb _ _ (the-if1 .left)) (the-first-default .ensures))  -- returns-2
     )

@@ -26,7 +26,7 @@ move-all-spec =
     let the-loop = c .before .before .before .before .before .before .before .loop in
     let the-media-below = c .before .before .before .before .before .media-below in
     let the-if1 = c .before .before .before .before .if1 in
-    (omega arith, the-move-media .kept .1 .1 .0 ∙ the-loop .inv .1, ascending-more _ _ _ (the-loop .inv .2) (rw (← the-media-below .ensures, the-if1 .taken) (the-move-media .ensures _ refl))))  -- loop-again
+    (omega arith, the-move-media .kept .1 .1 .0 ∙ the-loop .inv .1, ascending-more _ _ _ (the-loop .inv .2) (rw (← the-media-below .ensures, the-if1 .taken) (the-move-media .ensures))))  -- loop-again
     (λ c. search needs)  -- loop-less-2
     (λ c.
     let the-loop = c .before .before .before .loop in

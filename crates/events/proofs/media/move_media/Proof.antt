@@ -10,12 +10,12 @@ unfolding if_then_else_ mediaMoved mediaTo
 move-media-spec =
     tie.close
     (tie.spec
-    (λ c. search needs)  -- element-copy-out-old
+    (λ c. search needs)  -- array-read-old
     (λ c κs. search needs)  -- next-state-requires
     (λ c.
     let the-if1 = c .if1 in
     let the-next-state = c .before .next-state in
-    λ d e. rw (eq-eqb _ _ (the-if1 .taken ∙ the-next-state .ensures)))  -- returns
+    rw (eq-eqb _ _ (the-if1 .taken ∙ the-next-state .ensures)))  -- returns
     (λ c κs. search needs)  -- line-first-requires
     (λ c κs. search needs)  -- node-to-requires
     (λ c κs. search needs)  -- move-anchors-requires
@@ -28,7 +28,7 @@ move-media-spec =
     let the-node-to = c .before .before .before .before .before .before .node-to in
     let the-entry = c .before .before .before .before .before .before .before .before .before .before .before .before .before .before in
     let the-move-anchors = c .before .before .move-anchors in
-    λ d e. rw (← the-next-state .ensures, ne-eqb _ _ (the-if1 .left), ← the-line-first .ensures, the-if2 .taken, ← the-node-to .ensures, ← selects-follows (the-entry .args .action) (omega arith)) (the-move-anchors .ensures d e))  -- returns-2
+    rw (← the-next-state .ensures, ne-eqb _ _ (the-if1 .left), ← the-line-first .ensures, the-if2 .taken, ← the-node-to .ensures, ← selects-follows (the-entry .args .action) (omega arith)) (the-move-anchors .ensures))  -- returns-2
     (λ c κs. search needs)  -- move-anchors-requires-2
     (λ c κs. search needs)  -- node-to-requires-2
     (λ c. search needs)  -- same-length-2
@@ -40,5 +40,5 @@ move-media-spec =
     let the-entry = c .before .before .before .before .before .before .before .before .before .before .before .before .before .before in
     let the-move-anchors2 = c .before .before .before .before .before .before .move-anchors2 in
     let the-node-to2 = c .before .before .node-to2 in
-    λ d e. rw (← the-next-state .ensures, ne-eqb _ _ (the-if1 .left), ← the-line-first .ensures, the-if2 .left, ← selects-follows (the-entry .args .action) (omega arith), ← the-move-anchors2 .ensures d e) (the-node-to2 .ensures))  -- returns-3
+    rw (← the-next-state .ensures, ne-eqb _ _ (the-if1 .left), ← the-line-first .ensures, the-if2 .left, ← selects-follows (the-entry .args .action) (omega arith), ← the-move-anchors2 .ensures) (the-node-to2 .ensures))  -- returns-3
     )

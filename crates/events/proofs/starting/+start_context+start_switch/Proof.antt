@@ -110,7 +110,7 @@ unfolding contextStarted
     let the-move-media = c .before .before .move-media in
     let the-loop = c .before .before .before .before .before .before .before .before .before .before .loop in
     let the-start = c .before .before .before .before .before .start in
-    (omega (arith, the-loop-test), the-move-media .kept .1 .1 .0 ∙ the-loop .inv .1, λ l b. port-turn t (c .before .before .before .before .before .before .before) l b (rw (the-start .given .1) (the-move-media .ensures _ refl))))  -- loop-again
+    (omega (arith, the-loop-test), the-move-media .kept .1 .1 .0 ∙ the-loop .inv .1, λ l b. port-turn t (c .before .before .before .before .before .before .before) l b (rw (the-start .given .1) (the-move-media .ensures))))  -- loop-again
     (λ c. search needs)  -- enum-known-start-2
     (λ c κs.
     let the-start2 = c .before .before .start2 in
@@ -171,7 +171,7 @@ unfolding contextStarted
     (λ c.
     let the-start = c .before .before .before .before .before .start in
     let the-move-media = c .before .before .move-media in
-    λ l b. bind-turn t (c .before .before .before .before .before .before .before) l b (rw (the-start .given .1) (the-move-media .ensures _ refl)))  -- returns
+    λ l b. bind-turn t (c .before .before .before .before .before .before .before) l b (rw (the-start .given .1) (the-move-media .ensures)))  -- returns
     (λ c. search needs)  -- same-length-2
     (λ c.
     let the-start2 = c .before .before .before .before .before .start2 in

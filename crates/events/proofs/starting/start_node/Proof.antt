@@ -25,7 +25,7 @@ start-node-spec =
     let the-start-of = c .before .before .before .before .before .before .before .start-of in
     let the-start = c .before .before .before .before .before .start in
     let the-move-media = c .before .before .move-media in
-    rw (started-from _ 64 _ _ (omega arith), ← the-start-of .ensures, the-start .given .1) (the-move-media .ensures _ refl))  -- returns
+    rw (started-from _ 64 _ _ (omega arith), ← the-start-of .ensures, the-start .given .1) (the-move-media .ensures))  -- returns
     (λ c. search needs)  -- same-length-2
     (λ c.
     let the-start-of = c .before .before .before .before .before .before .before .start-of in

@@ -28,10 +28,10 @@ same-clock a = ap (λ (x : Run). nodeClock (x .state) (a .loop .n)) (a .loop .in
 -- where the anchors that end there have stopped
 ended : (j : tie.Joined2 Inv-loop μ-loop) → let a = j .before .before .before .before .before .before .before in let n = a .loop .n in let r = run a in
     (length (j .if2 .log) ≡ length (a .loop .log))
-    × (on (j .if2 .t) (j .if2 .log) ≡ anchorsMoved (j .before .before .before .before .before .before .before .before .before .before .before .before .before .before .before .before .before .args .d) (selects 0 (nodeClock (r .state) n + 1)) false n 0 (withState (withClock n (nodeClock (r .state) n + 1) (r .state)) (r .log) r))
+    × (on (j .if2 .t) (j .if2 .log) ≡ anchorsMoved (j .before .before .before .before .before .before .before .before .before .before .before .before .before .before .before .before .before .args .d .anchors) (selects 0 (nodeClock (r .state) n + 1)) false n 0 (withState (withClock n (nodeClock (r .state) n + 1) (r .state)) (r .log) r))
 ended j =
     let a = j .before .before .before .before .before .before .before in
-    ⊎-elim (λ w. (ap length (w .5) ∙ w .2 .kept .1 .1 .0, ap₂ on (w .6) (w .5) ∙ w .2 .ensures _ refl))
+    ⊎-elim (λ w. (ap length (w .5) ∙ w .2 .kept .1 .1 .0, ap₂ on (w .6) (w .5) ∙ w .2 .ensures))
     (λ w. (ap length (w .1), ap₂ on (w .2) (w .1) ∙ none-end _ _ _ _ _ (omega (arith, j .before .before .before .before .before .before .before .before .before .before .before .before .before .before .before .before .before .pre .nodes .few)) (same-clock a) (w .0 .left) _ _ (j .before .before .before .before .before .before .before .before .before .before .due-media .ensures)))
     (j .if2 .came)
 
@@ -41,7 +41,7 @@ passes : (j : tie.Joined3 Inv-loop μ-loop) → let a = j .before .before .befor
 passes j =
     let a = j .before .before .before .before .before .before .before .before in
     let e = ended (j .before) in
-    ⊎-elim (λ w. (ap length (w .5) ∙ w .2 .kept .1 .1 .0 ∙ e .0, ap₂ on (w .6) (w .5) ∙ anchors-pass _ _ (run a) _ (e .1) (w .2 .ensures _ refl)))
+    ⊎-elim (λ w. (ap length (w .5) ∙ w .2 .kept .1 .1 .0 ∙ e .0, ap₂ on (w .6) (w .5) ∙ anchors-pass _ _ (run a) _ (e .1) (w .2 .ensures)))
     (λ w. (ap length (w .1) ∙ e .0, ap₂ on (w .2) (w .1) ∙ anchors-pass _ _ (run a) _ (e .1) (none-begin _ _ _ _ _ (omega (arith, j .before .before .before .before .before .before .before .before .before .before .before .before .before .before .before .before .before .before .pre .nodes .few)) (same-clock a) (w .0 .left) _ _ (j .before .before .before .before .before .before .before .before .before .due-media2 .ensures))))
     (j .if3 .came)
 
@@ -54,7 +54,7 @@ turned j =
     ⊎-elim
     (λ w.
     let p = passes (record { before = record { before = record { before = j .before; if1 = w .0 }; if2 = w .1 }; if3 = w .2 }) in
-    (ap length (w .9) ∙ w .6 .kept .1 .1 .0 ∙ p .0, ap₂ on (w .10) (w .9) ∙ ticked-end _ _ (run a) (sym advances ∙ w .0 .taken) (w .4 .taken) (p .1) (w .6 .ensures _ refl)))
+    (ap length (w .9) ∙ w .6 .kept .1 .1 .0 ∙ p .0, ap₂ on (w .10) (w .9) ∙ ticked-end _ _ (run a) (sym advances ∙ w .0 .taken) (w .4 .taken) (p .1) (w .6 .ensures)))
     (⊎-elim
     (λ w.
     let p = passes (record { before = record { before = record { before = j .before; if1 = w .0 }; if2 = w .1 }; if3 = w .2 }) in

@@ -1,0 +1,92 @@
+//! The tables of the trace: what stands in their columns.
+
+use crate::sources::Sources;
+use std::collections::BTreeMap;
+use std::path::Path;
+
+/// A row of a table: its cells by the names of their columns, and the number of its line.
+pub struct Row {
+    pub line: usize,
+    cells: BTreeMap<String, String>,
+}
+
+impl Row {
+    /// The cell of a column; empty where the table has no such column.
+    pub fn cell(&self, column: &str) -> &str {
+        self.cells.get(column).map_or("", String::as_str)
+    }
+
+    /// The names of a cell, each with its module; one without is of the module of the name before it.
+    pub fn names(&self, column: &str, separator: &str) -> Vec<String> {
+        let mut module = String::new();
+        let mut names = Vec::new();
+        for name in
+            self.cell(column).split('`').skip(1).step_by(2).filter(|name| !name.contains('/'))
+        {
+            if let Some((before, _)) = name.rsplit_once(separator) {
+                module = before.to_string();
+                names.push(name.to_string());
+            } else if !module.is_empty() {
+                names.push(format!("{module}{separator}{name}"));
+            }
+        }
+        names
+    }
+}
+
+fn cells(line: &str) -> Vec<String> {
+    line.trim().trim_matches('|').split(" | ").map(|cell| cell.trim().to_string()).collect()
+}
+
+/// All rows of a document's tables.
+pub fn rows(document: &str) -> Vec<Row> {
+    let (mut rows, mut columns) = (Vec::new(), Vec::new());
+    for (number, line) in document.lines().enumerate() {
+        if !line.starts_with('|') {
+            columns.clear();
+        } else if columns.is_empty() {
+            columns = cells(line);
+        } else if !line.starts_with("|---") {
+            let cells = columns.iter().cloned().zip(cells(line)).collect();
+            rows.push(Row { line: number + 1, cells });
+        }
+    }
+    rows
+}
+
+/// What is not there of a cell that names proofs: `crate: folder/function, Laws.antt; crate: ..`. A function between
+/// backquotes and "by itself" has no file. `home` is the crate where none is named.
+pub fn missing_proofs(cell: &str, home: &str, sources: &Sources) -> Vec<String> {
+    let mut missing = Vec::new();
+    if cell.starts_with("- ") || cell.starts_with("table ") {
+        return missing;
+    }
+    let mut home = home;
+    for group in cell.split(';').map(str::trim) {
+        let mut items = group;
+        if let Some((name, rest)) = group.split_once(':') {
+            (home, items) = (name, rest);
+        }
+        for item in items.split(',').map(|item| item.split(" and ").next().expect("a part").trim())
+        {
+            let right = match item.strip_prefix('`').map(|item| item.split_once('`').expect("two"))
+            {
+                Some((function, " by itself")) => !has_proof(home, function, sources),
+                Some(_) => true, // names are looked at everywhere
+                None => !item.is_empty() && has_proof(home, item, sources),
+            };
+            if !right {
+                missing.push(format!("{home}: {item}"));
+            }
+        }
+    }
+    missing
+}
+
+/// A file of laws, or the proof of a function.
+fn has_proof(name: &str, item: &str, sources: &Sources) -> bool {
+    let folder = Path::new("crates").join(name);
+    [folder.join(item), folder.join("proofs").join(item)].into_iter().any(|path| {
+        sources.files.contains(&path) || sources.files.contains(&path.join("Proof.antt"))
+    })
+}

@@ -4,9 +4,12 @@ use crate::read;
 use crate::sources::Sources;
 use std::path::{Path, PathBuf};
 
-/// What is no part of the repository: the asker's papers, what is built, what the kit gives.
-const ELSEWHERE: [&str; 6] =
-    ["00-demands.md", "01-scope.md", "02-change-requests.md", "target/", "std::", "rt"];
+/// What is no part of the repository: the asker's papers, and the kit's command.
+const ELSEWHERE: [&str; 5] =
+    ["../shared", "00-demands.md", "01-scope.md", "02-change-requests.md", "rt"];
+
+/// What the names of things that are built, or that the kit gives, begin with.
+const BUILT_OR_GIVEN: [&str; 2] = ["target/", "std::"];
 
 /// The names of a document that name nothing, each with the number of its line.
 pub fn missing(document: &str, sources: &Sources) -> Vec<String> {
@@ -30,7 +33,7 @@ pub fn missing(document: &str, sources: &Sources) -> Vec<String> {
 /// Of code: paths of files, items and members wherever they stand, and a name that stands alone.
 fn wrong_in_code(code: &str, sources: &Sources) -> Vec<String> {
     let names_something = |word: &str| {
-        if ELSEWHERE.iter().any(|name| word.starts_with(name)) {
+        if ELSEWHERE.contains(&word) || BUILT_OR_GIVEN.iter().any(|start| word.starts_with(start)) {
             true
         } else if let Some(there) = is_there(word, sources) {
             there

@@ -39,6 +39,11 @@ fn definition_words(text: &str) -> impl Iterator<Item = String> + '_ {
         .map(str::to_string)
 }
 
+/// The lines of a text without its comments.
+fn uncommented<'a>(text: &'a str, comment: &'a str) -> impl Iterator<Item = &'a str> {
+    text.lines().map(move |line| line.split(comment).next().expect("a first part"))
+}
+
 /// What is left of a line after the first of some words, and which one it was.
 fn after<'a>(line: &'a str, words: &[&'static str]) -> Option<(&'static str, &'a str)> {
     words.iter().find_map(|word| Some((*word, line.strip_prefix(word)?)))
@@ -79,7 +84,7 @@ impl Sources {
                 Some("antt") => sources.enter_definitions(&path, &read(&path)),
                 // the tests of the documents have names of nothing in them
                 Some("rs") if !path.starts_with("tests/repository") => {
-                    sources.words.extend(code_words(&read(&path)));
+                    sources.words.extend(uncommented(&read(&path), "//").flat_map(code_words));
                 }
                 _ => {}
             }
@@ -90,11 +95,10 @@ impl Sources {
 
     fn enter_code(&mut self, path: &Path, text: &str) {
         let module = code_module(path);
-        self.words.extend(code_words(text));
         self.code_modules.insert(module.clone());
         let (mut item, mut type_open, mut ensures) = (String::new(), None, false);
-        for line in text.lines() {
-            let line = line.trim();
+        for line in uncommented(text, "//").map(str::trim) {
+            self.words.extend(code_words(line));
             let plain = line.trim_start_matches("pub ").trim_start_matches("extern \"C\" ");
             if let Some((word, rest)) =
                 after(plain, &["fn ", "struct ", "enum ", "const ", "type "])
@@ -108,9 +112,8 @@ impl Sources {
             } else if let Some(name) = &type_open {
                 self.members.entry(name.clone()).or_default().extend(code_words(plain).next());
             }
-            match after(line, &["ensures", "requires", "{"]) {
-                Some((word, _)) => ensures = word == "ensures",
-                None => {}
+            if let Some((word, _)) = after(line, &["ensures", "requires", "{"]) {
+                ensures = word == "ensures";
             }
             if ensures {
                 self.items.get_mut(&item).expect("a function").extend(definition_words(line));
@@ -119,12 +122,12 @@ impl Sources {
     }
 
     fn enter_definitions(&mut self, path: &Path, text: &str) {
-        self.words.extend(definition_words(text));
         let is_proof = path.iter().any(|part| part == "proofs");
         let module = path.file_stem().expect("a name").to_string_lossy().into_owned();
         let members = self.members.entry(module).or_default();
         let mut current = None;
-        for line in text.lines().map(|line| line.split("--").next().expect("a first part")) {
+        for line in uncommented(text, "--") {
+            self.words.extend(definition_words(line));
             if after(line, &["use ", "pub mod "]).is_some() {
                 continue;
             }
@@ -144,6 +147,13 @@ impl Sources {
     /// A function, a type or a constant, by its path from its crate.
     pub fn has_item(&self, path: &str) -> bool {
         self.items.contains_key(path)
+    }
+
+    /// An item of a crate, in whatever module.
+    pub fn has_item_in(&self, name: &str, item: &str) -> bool {
+        self.items.keys().any(|path| {
+            path.split("::").next() == Some(name) && path.split("::").last() == Some(item)
+        })
     }
 
     /// `Module.name` of the definitions and proofs; a field or case of a type of the code.

@@ -69,11 +69,10 @@ pub fn missing_proofs(cell: &str, home: &str, sources: &Sources) -> Vec<String> 
         }
         for item in items.split(',').map(|item| item.split(" and ").next().expect("a part").trim())
         {
-            let right = match item.strip_prefix('`').map(|item| item.split_once('`').expect("two"))
-            {
-                Some((function, " by itself")) => !has_proof(home, function, sources),
-                Some(_) => true, // names are looked at everywhere
-                None => !item.is_empty() && has_proof(home, item, sources),
+            let right = match item.split('`').collect::<Vec<_>>()[..] {
+                [path] => has_proof(home, path, sources),
+                ["", function, " by itself"] => is_proved_by_itself(home, function, sources),
+                _ => true, // names are looked at everywhere
             };
             if !right {
                 missing.push(format!("{home}: {item}"));
@@ -86,7 +85,44 @@ pub fn missing_proofs(cell: &str, home: &str, sources: &Sources) -> Vec<String> 
 /// A file of laws, or the proof of a function.
 fn has_proof(name: &str, item: &str, sources: &Sources) -> bool {
     let folder = Path::new("crates").join(name);
-    [folder.join(item), folder.join("proofs").join(item)].into_iter().any(|path| {
-        sources.files.contains(&path) || sources.files.contains(&path.join("Proof.antt"))
-    })
+    let file = item.ends_with(".antt").then_some("").unwrap_or("/Proof.antt");
+    let paths = [format!("{item}{file}"), format!("proofs/{item}{file}")];
+    paths.iter().any(|path| sources.files.contains(&folder.join(path)))
+}
+
+fn is_proved_by_itself(name: &str, function: &str, sources: &Sources) -> bool {
+    let folder = Path::new("crates").join(name).join("proofs");
+    let proof = Path::new(function).join("Proof.antt");
+    sources.has_item_in(name, function)
+        && !sources.files.iter().any(|file| file.starts_with(&folder) && file.ends_with(&proof))
+}
+
+/// No contract speaks of these: names of numbers, examples, lists of calls, the program's files.
+const NOT_PROMISED: [&str; 7] = [
+    "Terms.",
+    "Examples.",
+    "Demand3.",
+    "Operations.Call",
+    "Operations.sessionAfter",
+    "PrintedRun.printedRun",
+    "PrintedRun.printedScript",
+];
+
+/// The contracts of a row that cite none of its definitions, and the definitions that none of its contracts cites.
+pub fn uncited(row: &Row, sources: &Sources) -> Vec<String> {
+    let mut definitions = row.names("definition", ".");
+    definitions.retain(|name| !NOT_PROMISED.iter().any(|start| name.starts_with(start)));
+    let contracts = row.names("contract", "::");
+    if definitions.is_empty() || contracts.is_empty() {
+        return Vec::new();
+    }
+    let cites = |contract: &String, definition: &String| {
+        let (_, name) = definition.rsplit_once('.').expect("a module and a name");
+        sources.cited_by(contract).contains(name)
+    };
+    let idle =
+        contracts.iter().filter(|contract| !definitions.iter().any(|name| cites(contract, name)));
+    let open =
+        definitions.iter().filter(|name| !contracts.iter().any(|contract| cites(contract, name)));
+    idle.chain(open).map(|name| format!("line {}: {name}", row.line)).collect()
 }

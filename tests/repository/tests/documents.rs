@@ -1,22 +1,17 @@
 //! The documents name what is there, and the trace is what its legend says.
 
 use repository::names::{edit_file, missing};
+use repository::read;
 use repository::sources::Sources;
-use repository::trace::{missing_proofs, rows, Row};
-use repository::{files_below, read, root};
-use std::collections::BTreeSet;
-
-/// README and the documents, by their paths.
-fn documents() -> Vec<String> {
-    let mut documents = vec!["README.md".to_string(), "examples/README.md".to_string()];
-    for path in files_below(&root().join("docs")) {
-        documents.push(format!("docs/{}", path.file_name().expect("a name").to_string_lossy()));
-    }
-    documents
-}
+use repository::trace::{missing_proofs, rows, uncited, Row};
+use std::path::Path;
 
 fn trace() -> Vec<Row> {
     rows(&read("docs/TRACE.md"))
+}
+
+fn has_extension(file: &Path, extension: &str) -> bool {
+    file.extension().is_some_and(|end| end == extension)
 }
 
 fn assert_none(wrong: Vec<String>) {
@@ -27,9 +22,9 @@ fn assert_none(wrong: Vec<String>) {
 fn every_name_names_something() {
     let sources = Sources::read();
     let mut wrong = Vec::new();
-    for document in documents() {
-        let names = missing(&read(&document), &sources);
-        wrong.extend(names.into_iter().map(|name| format!("{document}, {name}")));
+    for document in sources.files.iter().filter(|file| has_extension(file, "md")) {
+        let names = missing(&read(document), &sources);
+        wrong.extend(names.into_iter().map(|name| format!("{}, {name}", document.display())));
     }
     assert_none(wrong);
 }
@@ -92,52 +87,30 @@ fn the_trace_lists_every_edit_once() {
         .filter(|row| !row.cell("edit").is_empty() && row.cell("contract").is_empty())
         .map(|row| edit_file(row.cell("edit")))
         .collect();
-    let is_edit = |file: &std::path::PathBuf| file.extension().is_some_and(|end| end == "edit");
-    let files: BTreeSet<_> = Sources::read().files.into_iter().filter(is_edit).collect();
+    let mut files = Sources::read().files;
+    files.retain(|file| has_extension(file, "edit"));
     let unlisted: Vec<_> = files.iter().filter(|file| !listed.contains(file)).collect();
     assert!(unlisted.is_empty(), "{unlisted:?}");
     assert_eq!(listed.len(), files.len(), "an edit is listed twice, or is not there");
 }
 
-/// No contract speaks of these: names of numbers, examples, lists of calls, the program's files.
-const NOT_PROMISED: [&str; 7] = [
-    "Terms.",
-    "Examples.",
-    "Demand3.",
-    "Operations.Call",
-    "Operations.sessionAfter",
-    "PrintedRun.printedRun",
-    "PrintedRun.printedScript",
-];
-
 #[test]
 fn contracts_cite_the_definitions_of_their_row() {
     let sources = Sources::read();
-    let (mut wrong, mut checked) = (Vec::new(), 0);
-    for row in trace() {
-        let contracts = row.names("contract", "::");
-        let definitions: Vec<String> = row
-            .names("definition", ".")
-            .into_iter()
-            .filter(|name| !NOT_PROMISED.iter().any(|start| name.starts_with(start)))
-            .map(|name| name.rsplit_once('.').expect("a module and a name").1.to_string())
-            .collect();
-        if contracts.is_empty() || definitions.is_empty() {
-            continue;
-        }
-        checked += 1;
-        let cited: Vec<_> = contracts.iter().map(|contract| sources.cited_by(contract)).collect();
-        for (contract, cited) in contracts.iter().zip(&cited) {
-            if !definitions.iter().any(|name| cited.contains(name)) {
-                wrong.push(format!("line {}: {contract} cites no definition of its row", row.line));
-            }
-        }
-        for name in &definitions {
-            if !cited.iter().any(|cited| cited.contains(name)) {
-                wrong.push(format!("line {}: no contract of the row cites {name}", row.line));
-            }
-        }
+    assert_none(trace().iter().flat_map(|row| uncited(row, &sources)).collect());
+}
+
+#[test]
+fn a_contract_that_cites_something_else_is_found() {
+    let sources = Sources::read();
+    for (definition, contract, wrong) in [
+        ("`Events.counted`", "`events::changes::count_after`", 0),
+        ("`Events.counted`", "`player::tick`", 0), // through what it is built from
+        ("`Events.clocked`", "`events::changes::count_after`", 2),
+        ("`Events.counted`, `clocked`", "`events::changes::count_after`", 1),
+        ("`Events.counted`", "`events::changes::count_after`, `transition_of`", 1),
+    ] {
+        let table = format!("| definition | contract |\n|---|---|\n| {definition} | {contract} |");
+        assert_eq!(uncited(&rows(&table)[0], &sources).len(), wrong, "{definition}, {contract}");
     }
-    assert!(checked >= 100, "only {checked} rows were looked at");
-    assert_none(wrong);
 }

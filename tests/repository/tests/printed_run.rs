@@ -11,7 +11,7 @@ use std::process::Command;
 use std::time::SystemTime;
 
 /// What `printed-run` takes from the path, beside `rt`, and what the script that plays `rt` takes.
-const TOOLS: [&str; 13] = [
+const TOOLS: [&str; 11] = [
     "bash",
     "cat",
     "chmod",
@@ -19,11 +19,9 @@ const TOOLS: [&str; 13] = [
     "env",
     "find",
     "mkdir",
-    "sed",
     "sha256sum",
     "sort",
     "tee",
-    "tr",
     "xargs",
 ];
 
@@ -116,7 +114,7 @@ fn later_runs_start_at_once() {
 }
 
 #[test]
-fn changed_sources_are_proved_once_more() {
+fn changed_sources_and_another_program_are_proved_once_more() {
     let _alone = alone();
     let repository = Repository::new();
     repository.run(&["reel"]);
@@ -124,8 +122,11 @@ fn changed_sources_are_proved_once_more() {
     assert_eq!(repository.run(&["reel"]), said(0, "printed\n", PROGRESS));
     repository.0.write("crates/base/src/new.rt", "");
     assert_eq!(repository.run(&["reel"]), said(0, "printed\n", PROGRESS));
+    // a program that was made from other sources
+    repository.0.write("target/bin/printed_run", "#!/bin/sh\necho other");
+    assert_eq!(repository.run(&["reel"]), said(0, "printed\n", PROGRESS));
     assert_eq!(repository.run(&["reel"]), said(0, "printed\n", ""));
-    assert_eq!(repository.calls(), 3);
+    assert_eq!(repository.calls(), 4);
 }
 
 #[test]

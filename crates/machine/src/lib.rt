@@ -1,10 +1,11 @@
 // The types of the report player. What its operations do is defined in specs/; there is no engine code here.
 //
-// A session is written down in public numbers, and anybody may write one: nothing is assumed of it.
+// A session is written down in public numbers, laid out as in C, and anybody may write one: nothing is assumed of it.
 
 // ---- the tables of a document: entry i of each array belongs to id i
 
 // Types: 0 context, 1 media, 2 switch.
+#[repr(C)]
 pub struct Nodes {
     pub count: usize,
     pub types: [u8; 64],
@@ -12,6 +13,7 @@ pub struct Nodes {
     pub durations: [u16; 64],
 }
 
+#[repr(C)]
 pub struct Anchors {
     pub count: usize,
     pub media: [u8; 128],
@@ -20,6 +22,7 @@ pub struct Anchors {
 }
 
 // Kinds: 4 a simple rule, with property, comparator and value; 5 a composite rule, with operator, left and right rule.
+#[repr(C)]
 pub struct Rules {
     pub count: usize,
     pub kinds: [u8; 32],
@@ -32,6 +35,7 @@ pub struct Rules {
 }
 
 // Rule 255 marks the default.
+#[repr(C)]
 pub struct Binds {
     pub count: usize,
     pub switches: [u8; 64],
@@ -39,6 +43,7 @@ pub struct Binds {
     pub rules: [u8; 64],
 }
 
+#[repr(C)]
 pub struct Ports {
     pub count: usize,
     pub contexts: [u8; 64],
@@ -46,6 +51,7 @@ pub struct Ports {
 }
 
 // Guard 255: none.
+#[repr(C)]
 pub struct Links {
     pub count: usize,
     pub owners: [u8; 64],
@@ -57,12 +63,14 @@ pub struct Links {
 }
 
 // Action j of link l is entry 8 l + j.
+#[repr(C)]
 pub struct Actions {
     pub actions: [u8; 512],
     pub targets: [u8; 512],
     pub values: [i32; 512],
 }
 
+#[repr(C)]
 pub struct Document {
     pub limit: u8,
     pub nodes: Nodes,
@@ -77,6 +85,7 @@ pub struct Document {
 
 // ---- what changes: states are 0 sleeping, 1 occurring, 2 paused; counts are of occurrences
 
+#[repr(C)]
 pub struct State {
     pub node_state: [u8; 64],
     pub node_clock: [u16; 64],
@@ -87,6 +96,7 @@ pub struct State {
     pub property_count: [u32; 32],
 }
 
+#[repr(C)]
 pub struct Session {
     pub document: Document,
     pub state: State,

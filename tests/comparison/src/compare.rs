@@ -40,18 +40,18 @@ fn same_bytes(what: &str, player: &[u8], second: &[u8]) -> Result<(), Difference
 /// A session that came from a document, in both engines.
 #[derive(Clone)]
 pub struct Both {
-    pub bytes: Vec<u8>,
+    pub player: player::Session,
     pub second: Session,
 }
 
 impl Both {
     /// The loaded session, or the number of the refusal that both give.
     pub fn load(document: &[u8]) -> Result<Result<Both, u8>, Difference> {
-        let (bytes, answer) = player::load(document);
+        let (player, answer) = player::Session::load(document);
         let (written, second_answer) = WrittenSession::load(document);
         same_answer(answer, numbered(second_answer).map(|()| 0))?;
-        same_bytes("session", &bytes, &bytes_of(&written))?;
-        Ok(numbered(load(document)).map(|second| Both { bytes, second }))
+        same_bytes("session", &bytes_of(&player), &bytes_of(&written))?;
+        Ok(numbered(load(document)).map(|second| Both { player, second }))
     }
 
     pub fn call(
@@ -61,19 +61,19 @@ impl Both {
         probe: &mut Probe,
     ) -> Result<(Result<usize, Refusal>, Vec<u8>), Difference> {
         let (mut log, mut second_log) = (untouched_log(log_length), untouched_log(log_length));
-        let answer = player::call(&mut self.bytes, call, &mut log);
+        let answer = self.player.call(call, &mut log);
         let second_answer = self.second.probed_call(call, &mut second_log, probe);
         same_answer(answer, numbered(second_answer))?;
         same_bytes("log", &log, &second_log)?;
         let written = WrittenSession::from(&self.second);
-        same_bytes("session", &self.bytes, &bytes_of(&written))?;
+        same_bytes("session", &bytes_of(&self.player), &bytes_of(&written))?;
         Ok((second_answer, log))
     }
 
     pub fn read(&self, class: u8, id: u8) -> Result<Result<(), Refusal>, Difference> {
         let second = self.second.read(class, id);
         let reading = second.map(|found| (found.state as u8, found.value, found.count));
-        same_answer(player::read(&self.bytes, class, id), numbered(reading))?;
+        same_answer(self.player.read(class, id), numbered(reading))?;
         Ok(second.map(|_| ()))
     }
 }
@@ -84,26 +84,28 @@ pub fn call_on_written(
     call: Call,
     log_length: usize,
 ) -> Result<(Answer, Vec<u8>), Difference> {
-    let (mut session, mut written) = (bytes.to_vec(), session_of(bytes));
+    let mut player: player::Session = session_of(bytes);
+    let mut written: WrittenSession = session_of(bytes);
     let (mut log, mut second_log) = (untouched_log(log_length), untouched_log(log_length));
-    let answer = player::call(&mut session, call, &mut log);
+    let answer = player.call(call, &mut log);
     let second_answer = written.call(call, &mut second_log);
     same_answer(answer, numbered(second_answer))?;
     same_bytes("log", &log, &second_log)?;
-    same_bytes("session", &session, &bytes_of(&written))?;
-    Ok((answer, session))
+    let after = bytes_of(&player);
+    same_bytes("session", &after, &bytes_of(&written))?;
+    Ok((answer, after))
 }
 
-/// A read of a session that somebody wrote down. The second engine's session is handed in beside
-/// its bytes, since making it takes longer than a read.
+/// A read of a session that somebody wrote down. Both engines' sessions are handed in, since making
+/// them takes longer than a read.
 pub fn read_of_written(
-    bytes: &[u8],
+    player: &player::Session,
     written: &WrittenSession,
     class: u8,
     id: u8,
 ) -> Result<Result<(), u8>, Difference> {
     let second = numbered(written.read(class, id))
         .map(|found| (found.state as u8, found.value, found.count));
-    same_answer(player::read(bytes, class, id), second)?;
+    same_answer(player.read(class, id), second)?;
     Ok(second.map(|_| ()))
 }

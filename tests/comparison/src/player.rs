@@ -1,42 +1,148 @@
-//! The player's operations, called through the static library `probe`.
+//! The player's operations, called through the static library `probe`, on sessions as the player
+//! has them: the tables of `crates/machine/src/lib.rt`, field for field.
 
+use std::mem::MaybeUninit;
+
+use second_engine::document::{
+    MOST_ACTIONS, MOST_ANCHORS, MOST_BINDS, MOST_LINKS, MOST_NODES, MOST_PORTS, MOST_PROPERTIES,
+    MOST_RULES,
+};
 use second_engine::Call;
 
-use crate::flat::SESSION_SIZE;
+const ACTION_SLOTS: usize = MOST_LINKS * MOST_ACTIONS;
+
+#[repr(C)]
+#[derive(Clone, Copy)]
+pub struct Nodes {
+    pub count: usize,
+    pub types: [u8; MOST_NODES],
+    pub parents: [u8; MOST_NODES],
+    pub durations: [u16; MOST_NODES],
+}
+
+#[repr(C)]
+#[derive(Clone, Copy)]
+pub struct Anchors {
+    pub count: usize,
+    pub media: [u8; MOST_ANCHORS],
+    pub begins: [u16; MOST_ANCHORS],
+    pub ends: [u16; MOST_ANCHORS],
+}
+
+#[repr(C)]
+#[derive(Clone, Copy)]
+pub struct Rules {
+    pub count: usize,
+    pub kinds: [u8; MOST_RULES],
+    pub properties: [u8; MOST_RULES],
+    pub comparators: [u8; MOST_RULES],
+    pub values: [i32; MOST_RULES],
+    pub operators: [u8; MOST_RULES],
+    pub lefts: [u8; MOST_RULES],
+    pub rights: [u8; MOST_RULES],
+}
+
+#[repr(C)]
+#[derive(Clone, Copy)]
+pub struct Binds {
+    pub count: usize,
+    pub switches: [u8; MOST_BINDS],
+    pub children: [u8; MOST_BINDS],
+    pub rules: [u8; MOST_BINDS],
+}
+
+#[repr(C)]
+#[derive(Clone, Copy)]
+pub struct Ports {
+    pub count: usize,
+    pub contexts: [u8; MOST_PORTS],
+    pub children: [u8; MOST_PORTS],
+}
+
+#[repr(C)]
+#[derive(Clone, Copy)]
+pub struct Links {
+    pub count: usize,
+    pub owners: [u8; MOST_LINKS],
+    pub classes: [u8; MOST_LINKS],
+    pub subjects: [u8; MOST_LINKS],
+    pub transitions: [u8; MOST_LINKS],
+    pub guards: [u8; MOST_LINKS],
+    pub action_counts: [u8; MOST_LINKS],
+}
+
+#[repr(C)]
+#[derive(Clone, Copy)]
+pub struct Actions {
+    pub actions: [u8; ACTION_SLOTS],
+    pub targets: [u8; ACTION_SLOTS],
+    pub values: [i32; ACTION_SLOTS],
+}
+
+#[repr(C)]
+#[derive(Clone, Copy)]
+pub struct Document {
+    pub limit: u8,
+    pub nodes: Nodes,
+    pub anchors: Anchors,
+    pub properties: usize,
+    pub rules: Rules,
+    pub binds: Binds,
+    pub ports: Ports,
+    pub links: Links,
+    pub actions: Actions,
+}
+
+#[repr(C)]
+#[derive(Clone, Copy)]
+pub struct State {
+    pub node_state: [u8; MOST_NODES],
+    pub node_clock: [u16; MOST_NODES],
+    pub node_count: [u32; MOST_NODES],
+    pub anchor_state: [u8; MOST_ANCHORS],
+    pub anchor_count: [u32; MOST_ANCHORS],
+    pub property_value: [i32; MOST_PROPERTIES],
+    pub property_count: [u32; MOST_PROPERTIES],
+}
+
+#[repr(C)]
+#[derive(Clone, Copy)]
+pub struct Session {
+    pub document: Document,
+    pub state: State,
+}
+
+#[repr(C)]
+struct ReturnedSession {
+    accepted: bool,
+    refusal: u8,
+    firings: u8,
+    session: Session,
+}
+
+#[repr(C)]
+struct ReturnedReading {
+    accepted: bool,
+    refusal: u8,
+    state: u8,
+    value: i32,
+    count: u32,
+}
 
 extern "C" {
-    fn probe_session_size() -> usize;
-    fn probe_load(document: *const u8, length: usize, session: *mut SessionBytes) -> u32;
+    fn probe_load(document: *const u8, length: usize) -> ReturnedSession;
     fn probe_command(
-        session: *mut SessionBytes,
-        log: *mut u8,
-        length: usize,
+        session: Session,
         action: u8,
         target: u8,
         value: i32,
-    ) -> u32;
-    fn probe_key(session: *mut SessionBytes, log: *mut u8, length: usize, code: u8) -> u32;
-    fn probe_tick(session: *mut SessionBytes, log: *mut u8, length: usize) -> u32;
-    fn probe_read(
-        session: *const SessionBytes,
-        class: u8,
-        id: u8,
-        state: &mut u8,
-        value: &mut i32,
-        count: &mut u32,
-    ) -> u32;
-    fn probe_run(
-        document: *const u8,
-        document_length: usize,
-        script: *const u8,
-        script_length: usize,
         log: *mut u8,
-        log_length: usize,
-    ) -> u64;
-    fn probe_check(session: *const SessionBytes, times: u32) -> u32;
+        length: usize,
+    ) -> ReturnedSession;
+    fn probe_key(session: Session, code: u8, log: *mut u8, length: usize) -> ReturnedSession;
+    fn probe_tick(session: Session, log: *mut u8, length: usize) -> ReturnedSession;
+    fn probe_read(session: Session, class: u8, id: u8) -> ReturnedReading;
 }
-
-type SessionBytes = [u8; SESSION_SIZE];
 
 /// The firings of an accepted call, or the number of the refusal.
 pub type Answer = Result<usize, u8>;
@@ -44,74 +150,53 @@ pub type Answer = Result<usize, u8>;
 /// State, value and count.
 pub type Reading = (u8, i32, u32);
 
-fn answer_of(number: u32) -> Answer {
-    match (number >> 16) as u8 {
-        0 => Ok((number & 0xFFFF) as usize),
-        refusal => Err(refusal),
-    }
-}
-
-pub fn session_size() -> usize {
-    // Safety: takes nothing.
-    unsafe { probe_session_size() }
-}
-
-/// Loads a document into a session's bytes.
-pub fn load(document: &[u8]) -> (Vec<u8>, Answer) {
-    // What is there before must not show in what comes back.
-    let mut session = vec![0xCD; SESSION_SIZE];
-    // Safety: both slices live through the call and do not overlap; the session has its size.
-    let number =
-        unsafe { probe_load(document.as_ptr(), document.len(), session.as_mut_ptr().cast()) };
-    (session, answer_of(number))
-}
-
-/// Runs a call on a session's bytes, which become those of the session that it returns.
-pub fn call(session: &mut [u8], call: Call, log: &mut [u8]) -> Answer {
-    assert_eq!(session.len(), SESSION_SIZE);
-    let place = session.as_mut_ptr().cast();
-    let (lines, length) = (log.as_mut_ptr(), log.len());
-    // Safety: both slices live through the call and do not overlap; the session has its size.
-    answer_of(unsafe {
-        match call {
-            Call::Command { action, target, value } => {
-                probe_command(place, lines, length, action, target, value)
-            }
-            Call::Key { code } => probe_key(place, lines, length, code),
-            Call::Tick => probe_tick(place, lines, length),
+impl ReturnedSession {
+    fn answer(&self) -> Answer {
+        if self.accepted {
+            Ok(usize::from(self.firings))
+        } else {
+            Err(self.refusal)
         }
-    })
-}
-
-pub fn read(session: &[u8], class: u8, id: u8) -> Result<Reading, u8> {
-    assert_eq!(session.len(), SESSION_SIZE);
-    let (mut state, mut value, mut count) = (0xCD, -1, u32::MAX);
-    // Safety: the session has its size, and the references point to locals of their own.
-    let number = unsafe {
-        probe_read(session.as_ptr().cast(), class, id, &mut state, &mut value, &mut count)
-    };
-    answer_of(number).map(|_| (state, value, count))
-}
-
-/// Loads a document and runs a script on it, without taking the session out; a checksum of the
-/// lines of all calls.
-pub fn run(document: &[u8], script: &[u8], log: &mut [u8]) -> u64 {
-    // Safety: the slices live through the call and do not overlap.
-    unsafe {
-        probe_run(
-            document.as_ptr(),
-            document.len(),
-            script.as_ptr(),
-            script.len(),
-            log.as_mut_ptr(),
-            log.len(),
-        )
     }
 }
 
-/// Checks a session so many times; how often it was broken.
-pub fn check(session: &[u8], times: u32) -> u32 {
-    assert_eq!(session.len(), SESSION_SIZE);
-    // Safety: the session has its size and lives through the call.
-    unsafe { probe_check(session.as_ptr().cast(), times) }
+impl Session {
+    /// All zero.
+    pub fn empty() -> Self {
+        // Safety: every field is a number or an array of numbers.
+        unsafe { MaybeUninit::zeroed().assume_init() }
+    }
+
+    pub fn load(document: &[u8]) -> (Session, Answer) {
+        // Safety: the slice lives through the call, which only reads it.
+        let returned = unsafe { probe_load(document.as_ptr(), document.len()) };
+        (returned.session, returned.answer())
+    }
+
+    /// Runs a call; the session becomes the one that it returns.
+    pub fn call(&mut self, call: Call, log: &mut [u8]) -> Answer {
+        let (lines, length) = (log.as_mut_ptr(), log.len());
+        // Safety: the slice lives through the call, and nothing else holds it.
+        let returned = unsafe {
+            match call {
+                Call::Command { action, target, value } => {
+                    probe_command(*self, action, target, value, lines, length)
+                }
+                Call::Key { code } => probe_key(*self, code, lines, length),
+                Call::Tick => probe_tick(*self, lines, length),
+            }
+        };
+        *self = returned.session;
+        returned.answer()
+    }
+
+    pub fn read(&self, class: u8, id: u8) -> Result<Reading, u8> {
+        // Safety: takes numbers alone.
+        let returned = unsafe { probe_read(*self, class, id) };
+        if returned.accepted {
+            Ok((returned.state, returned.value, returned.count))
+        } else {
+            Err(returned.refusal)
+        }
+    }
 }

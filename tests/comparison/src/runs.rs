@@ -112,7 +112,7 @@ pub fn sessions(seed: u64, most: usize) -> Vec<(Vec<u8>, Call)> {
     };
     let mut sessions = Vec::new();
     for call in generate::calls(&mut random, &document, most) {
-        sessions.push((both.bytes.clone(), call));
+        sessions.push((bytes_of(&both.player), call));
         told.calls.push((call, 4_096));
         let called = both.call(call, 4_096, &mut Probe::default());
         if let Err(difference) = called {
@@ -133,9 +133,9 @@ pub fn run_written(
     let mut told = Told { seed, session: Some(session.clone()), ..Told::default() };
     let mut bytes = session;
     for _ in 0..calls {
-        let written = session_of(&bytes);
+        let written: WrittenSession = session_of(&bytes);
         let (class, id) = (random.between(0, 4) as u8, random.likely_byte());
-        let reading = read_of_written(&bytes, &written, class, id);
+        let reading = read_of_written(&session_of(&bytes), &written, class, id);
         let reading = reading.map_err(|difference| told.with(difference))?;
         count.reads += 1;
         count.broken += usize::from(reading == Err(13));

@@ -4,7 +4,7 @@ use std::cmp::Reverse;
 
 use comparison::compare::{call_on_written, read_of_written, Both};
 use comparison::flat::{bytes_of, session_of, SESSION_SIZE};
-use comparison::player;
+use comparison::player::Session;
 use comparison::runs::{changed, run, run_written, sessions, times, Count, Told};
 use second_engine::coverage::{Coverage, Feature};
 use second_engine::generate;
@@ -17,12 +17,12 @@ fn equal<T>(compared: Result<T, String>) -> T {
 }
 
 #[test]
-fn the_layout_is_one_to_one() {
-    assert_eq!(player::session_size(), SESSION_SIZE);
+fn bytes_and_sessions_are_one_to_one() {
     let mut random = Random::new(0);
     for _ in 0..200 {
         let bytes: Vec<u8> = (0..SESSION_SIZE).map(|_| random.byte()).collect();
-        assert_eq!(bytes_of(&session_of(&bytes)), bytes);
+        assert_eq!(bytes_of(&session_of::<Session>(&bytes)), bytes);
+        assert_eq!(bytes_of(&session_of::<WrittenSession>(&bytes)), bytes);
     }
 }
 
@@ -111,7 +111,7 @@ fn rich_sessions() -> Vec<(u64, Vec<u8>, Call)> {
         rich.extend(best.map(|(session, call)| (seed, session, call)));
     }
     rich.sort_by_cached_key(|(_, session, _)| {
-        let written = session_of(session);
+        let written: WrittenSession = session_of(session);
         Reverse(awake_events(&written) + written.rule_count + written.bind_count)
     });
     rich
@@ -150,7 +150,7 @@ fn counts_of_any_size() {
             .into_iter()
             .chain([(1 << 32) + 1, (1 << 63) - 1, 1 << 63, u64::MAX - 1, u64::MAX])
         {
-            let mut written = session_of(&session);
+            let mut written: WrittenSession = session_of(&session);
             for table in 0..7 {
                 let mut changed = written.clone();
                 let field = [
@@ -205,13 +205,13 @@ fn logs_of_every_length() {
 fn reads_of_every_class_and_id() {
     let mut count = Count::default();
     for (place, (seed, session, _)) in rich_sessions().into_iter().take(40).enumerate() {
-        let written = session_of(&session);
+        let (player, written) = (session_of(&session), session_of(&session));
         // All classes for the first, those near the right ones for the others.
         let classes = if place == 0 { 0..=255 } else { 0..=5 };
         for class in classes {
             for id in 0..=255 {
                 let told = Told { seed, session: Some(session.clone()), ..Told::default() };
-                let read = read_of_written(&session, &written, class, id);
+                let read = read_of_written(&player, &written, class, id);
                 let read = read.map_err(|difference| format!("{class} {id}: {difference}"));
                 count.accepted +=
                     usize::from(equal(read.map_err(|difference| told.with(difference))).is_ok());

@@ -1,12 +1,12 @@
 //! The names in a document, and whether what they name is there.
 
 use crate::read;
-use crate::sources::Sources;
+use crate::sources::{words, Sources};
 use std::path::{Path, PathBuf};
 
 /// What is no part of the repository: the asker's papers, and the kit's command.
-const ELSEWHERE: [&str; 5] =
-    ["../shared", "00-demands.md", "01-scope.md", "02-change-requests.md", "rt"];
+const ELSEWHERE: [&str; 6] =
+    ["../shared", "00-demands.md", "01-scope.md", "02-change-requests.md", "rt", "cc"];
 
 /// What the names of things that are built, or that the kit gives, begin with.
 const BUILT_OR_GIVEN: [&str; 2] = ["target/", "std::"];
@@ -18,11 +18,14 @@ pub fn missing(document: &str, sources: &Sources) -> Vec<String> {
         if line.starts_with("    ") {
             continue; // a block of code
         }
-        for (part, text) in line.split('`').enumerate() {
-            let wrong = if part % 2 == 0 {
+        let parts: Vec<&str> = line.split('`').collect();
+        for (place, text) in parts.iter().enumerate() {
+            let wrong = if place % 2 == 0 {
                 wrong_in_text(text, sources)
             } else {
-                wrong_in_code(text, sources)
+                let mut wrong = wrong_in_code(text, sources);
+                wrong.extend(wrong_in_file(&parts[place..], sources));
+                wrong
             };
             missing.extend(wrong.into_iter().map(|name| format!("line {}: {name}", number + 1)));
         }
@@ -38,11 +41,9 @@ fn wrong_in_code(code: &str, sources: &Sources) -> Vec<String> {
         } else if let Some(there) = is_there(word, sources) {
             there
         } else if let Some((first, rest)) = word.split_once("::") {
-            let in_crate = sources.crates.iter().any(|name| name == first);
             sources.has_item(word)
                 || sources.code_modules.contains(word)
                 || sources.has_member(first, rest)
-                || !in_crate && sources.has_word(first) && sources.has_word(rest)
         } else if word.contains('/') {
             !word.contains(char::is_alphabetic) || has_file(word, sources)
         } else if let Some((of, name)) = word.split_once('.').filter(|(of, _)| is_name(of)) {
@@ -56,6 +57,18 @@ fn wrong_in_code(code: &str, sources: &Sources) -> Vec<String> {
         .filter(|word| !word.is_empty() && !names_something(word))
         .map(str::to_string)
         .collect()
+}
+
+/// `name` in `file`: the file has the name in it.
+fn wrong_in_file(parts: &[&str], sources: &Sources) -> Option<String> {
+    let [path, " in ", file, ..] = *parts else {
+        return None;
+    };
+    let name = path.rsplit(['.', ':']).next().expect("a part");
+    let is_there = !is_name(name)
+        || !sources.files.contains(Path::new(file))
+        || words(&read(file)).any(|word| word == name);
+    (!is_there).then(|| format!("{path} in {file}"))
 }
 
 /// More than one letter, digit, `_` or `-`, and a letter first.

@@ -39,6 +39,11 @@ fn definition_words(text: &str) -> impl Iterator<Item = String> + '_ {
         .map(str::to_string)
 }
 
+/// The names of a text, of code or of definitions.
+pub fn words(text: &str) -> impl Iterator<Item = String> + '_ {
+    code_words(text).chain(definition_words(text))
+}
+
 /// The lines of a text without its comments.
 fn uncommented<'a>(text: &'a str, comment: &'a str) -> impl Iterator<Item = &'a str> {
     text.lines().map(move |line| line.split(comment).next().expect("a first part"))
@@ -144,9 +149,10 @@ impl Sources {
         }
     }
 
-    /// A function, a type or a constant, by its path from its crate.
+    /// A function, a type or a constant, by its path from its crate or by the end of that path.
     pub fn has_item(&self, path: &str) -> bool {
-        self.items.contains_key(path)
+        let end = format!("::{path}");
+        self.items.keys().any(|item| item == path || item.ends_with(&end))
     }
 
     /// An item of a crate, in whatever module.

@@ -11,18 +11,17 @@ pub struct Row {
 }
 
 impl Row {
-    /// The cell of a column; empty where the table has no such column.
-    pub fn cell(&self, column: &str) -> &str {
-        self.cells.get(column).map_or("", String::as_str)
+    /// The cell of a column, if the table has such a column.
+    pub fn cell(&self, column: &str) -> Option<&str> {
+        self.cells.get(column).map(String::as_str)
     }
 
     /// The names of a cell, each with its module; one without is of the module of the name before it.
     pub fn names(&self, column: &str, separator: &str) -> Vec<String> {
         let mut module = String::new();
         let mut names = Vec::new();
-        for name in
-            self.cell(column).split('`').skip(1).step_by(2).filter(|name| !name.contains('/'))
-        {
+        let cell = self.cell(column).unwrap_or_default();
+        for name in cell.split('`').skip(1).step_by(2).filter(|name| !name.contains('/')) {
             if let Some((before, _)) = name.rsplit_once(separator) {
                 module = before.to_string();
                 names.push(name.to_string());
@@ -85,7 +84,7 @@ pub fn missing_proofs(cell: &str, home: &str, sources: &Sources) -> Vec<String> 
 /// A file of laws, or the proof of a function.
 fn has_proof(name: &str, item: &str, sources: &Sources) -> bool {
     let folder = Path::new("crates").join(name);
-    let file = item.ends_with(".antt").then_some("").unwrap_or("/Proof.antt");
+    let file = if item.ends_with(".antt") { "" } else { "/Proof.antt" };
     let paths = [format!("{item}{file}"), format!("proofs/{item}{file}")];
     paths.iter().any(|path| sources.files.contains(&folder.join(path)))
 }

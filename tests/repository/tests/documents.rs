@@ -36,12 +36,15 @@ fn a_name_of_nothing_is_found() {
         "`events::starting::found_bind`", // it is in another module
         "`events::starting::bind_start`", // used there and declared elsewhere
         "`events::settling_twice`",
+        "`starting::found_bind`",
         "`CallAnswer::NoSuchCase`",
+        "`CallAnswer::Loaded`", // a case of another type
         "`FirstSession.loaded-good`",
         "`State.no_such_field`",
         "`crates/events/src/no_such_file.rt`",
         "`no_such_file.md`",
         "`no_such_function`",
+        "`decide` in `crates/chain/src/lib.rt`", // it is in another crate
         "edit events/no_such_edit",
         "load.rs/no_such_test",
         "E99",
@@ -55,12 +58,10 @@ fn every_proof_of_the_trace_is_there() {
     let sources = Sources::read();
     let mut wrong = Vec::new();
     for row in trace() {
-        let home = row.cell("edit").split('/').next().expect("a part");
-        for cell in ["proof", "refused at"].map(|column| row.cell(column)) {
-            if !cell.is_empty() {
-                let proofs = missing_proofs(cell, home, &sources);
-                wrong.extend(proofs.into_iter().map(|proof| format!("line {}: {proof}", row.line)));
-            }
+        let home = row.cell("edit").unwrap_or_default().split('/').next().expect("a part");
+        for cell in ["proof", "refused at"].iter().filter_map(|column| row.cell(column)) {
+            let proofs = missing_proofs(cell, home, &sources);
+            wrong.extend(proofs.into_iter().map(|proof| format!("line {}: {proof}", row.line)));
         }
     }
     assert_none(wrong);
@@ -70,6 +71,7 @@ fn every_proof_of_the_trace_is_there() {
 fn a_proof_that_is_not_there_is_found() {
     let sources = Sources::read();
     for cell in [
+        "",
         "player:",
         "player: load",
         "events: changes",
@@ -84,8 +86,8 @@ fn a_proof_that_is_not_there_is_found() {
 fn the_trace_lists_every_edit_once() {
     let listed: Vec<_> = trace()
         .iter()
-        .filter(|row| !row.cell("edit").is_empty() && row.cell("contract").is_empty())
-        .map(|row| edit_file(row.cell("edit")))
+        .filter(|row| row.cell("contract").is_none())
+        .filter_map(|row| row.cell("edit").map(edit_file))
         .collect();
     let mut files = Sources::read().files;
     files.retain(|file| has_extension(file, "edit"));
@@ -113,4 +115,27 @@ fn a_contract_that_cites_something_else_is_found() {
         let table = format!("| definition | contract |\n|---|---|\n| {definition} | {contract} |");
         assert_eq!(uncited(&rows(&table)[0], &sources).len(), wrong, "{definition}, {contract}");
     }
+}
+
+// The five wrong players of 01, by their numbers, each with an edit that plants it.
+#[test]
+fn the_trace_has_the_players_that_are_shut_out() {
+    let rows = trace();
+    let edits: Vec<_> = rows.iter().filter_map(|row| row.cell("edit")).collect();
+    for number in 1..=5 {
+        let start = format!("c) {number}. ");
+        let is_player = |row: &&Row| row.cell("promise").is_some_and(|p| p.starts_with(&start));
+        let player = rows.iter().find(is_player).expect("a row of its own");
+        let met = player.cell("where it is met").expect("a cell");
+        assert!(edits.iter().any(|edit| met.contains(edit)), "line {}", player.line);
+    }
+}
+
+#[test]
+fn the_readme_has_the_functions_of_the_player() {
+    let functions = |text: &str| -> Vec<String> {
+        let lines = text.lines().map(str::trim).filter(|line| line.starts_with("pub fn "));
+        lines.map(str::to_string).collect()
+    };
+    assert_eq!(functions(&read("README.md")), functions(&read("crates/player/src/lib.rt")));
 }

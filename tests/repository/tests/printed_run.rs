@@ -11,7 +11,7 @@ use std::process::Command;
 use std::time::SystemTime;
 
 /// What `printed-run` takes from the path, beside `rt`, and what the script that plays `rt` takes.
-const TOOLS: [&str; 11] = [
+const TOOLS: [&str; 12] = [
     "bash",
     "cat",
     "chmod",
@@ -19,6 +19,7 @@ const TOOLS: [&str; 11] = [
     "env",
     "find",
     "mkdir",
+    "readlink",
     "sha256sum",
     "sort",
     "tee",
@@ -58,10 +59,14 @@ impl Repository {
     }
 
     fn run(&self, arguments: &[&str]) -> Outcome {
-        let mut command = Command::new(self.0.path("printed-run"));
-        outcome(
-            command.args(arguments).current_dir(self.0.path("")).env("PATH", self.0.path("bin")),
-        )
+        self.run_as("printed-run", arguments)
+    }
+
+    /// By another path to the command.
+    fn run_as(&self, path: &str, arguments: &[&str]) -> Outcome {
+        let mut command = Command::new(self.0.path(path));
+        command.args(arguments).current_dir(self.0.path("")).env("PATH", self.0.path("bin"));
+        outcome(command.env("CDPATH", "crates").env("OLDPWD", "reel"))
     }
 
     /// How often `rt` was called.
@@ -81,8 +86,11 @@ fn what_is_missing_is_said_in_one_sentence() {
     let one = said(2, "", "printed-run: name one folder, with the files doc and script in it\n");
     assert_eq!(repository.run(&[]), one);
     assert_eq!(repository.run(&["reel", "reel"]), one);
-    let none = said(2, "", "printed-run: there is no folder none\n");
-    assert_eq!(repository.run(&["none"]), none);
+    assert_eq!(repository.run(&[""]), one);
+    for folder in ["none", "-", "-P"] {
+        let sentence = format!("printed-run: there is no folder {folder}\n");
+        assert_eq!(repository.run(&[folder]), said(2, "", &sentence));
+    }
     for file in ["doc", "script"] {
         let repository = Repository::new();
         fs::remove_file(repository.0.path("reel").join(file)).unwrap();
@@ -110,6 +118,23 @@ fn later_runs_start_at_once() {
     assert_eq!(repository.run(&["reel"]), again);
     fs::remove_file(repository.0.path("bin/rt")).unwrap();
     assert_eq!(repository.run(&["reel/"]), again);
+    assert_eq!(repository.calls(), 1);
+}
+
+#[test]
+fn the_folder_and_the_command_may_have_any_name() {
+    let _alone = alone();
+    let repository = Repository::new();
+    repository.run(&["reel"]);
+    for folder in ["-", "-P", "two words", "base"] {
+        repository.0.write(&format!("{folder}/doc"), folder);
+        repository.0.write(&format!("{folder}/script"), "");
+        assert_eq!(repository.run(&[folder]), said(0, folder, ""));
+    }
+    symlink(repository.0.path("printed-run"), repository.0.path("bin/player")).expect("a link");
+    let folder = repository.0.path("reel");
+    let run = repository.run_as("bin/player", &[folder.to_str().expect("text")]);
+    assert_eq!(run, said(0, "printed\n", ""));
     assert_eq!(repository.calls(), 1);
 }
 

@@ -4,7 +4,7 @@ use crate::read;
 use crate::sources::{words, Sources};
 use std::path::{Path, PathBuf};
 
-/// What is no part of the repository: the asker's papers, and the kit's command.
+/// What is no part of the repository: the asker's papers, the kit's command, and the linker.
 const ELSEWHERE: [&str; 6] =
     ["../shared", "00-demands.md", "01-scope.md", "02-change-requests.md", "rt", "cc"];
 

@@ -40,10 +40,11 @@ fn wrong_in_code(code: &str, sources: &Sources) -> Vec<String> {
             true
         } else if let Some(there) = is_there(word, sources) {
             there
-        } else if let Some((first, rest)) = word.split_once("::") {
+        } else if let Some((of, name)) = word.rsplit_once("::") {
+            let of_type = of.rsplit("::").next().expect("a part");
             sources.has_item(word)
                 || sources.code_modules.contains(word)
-                || sources.has_member(first, rest)
+                || (of == of_type || sources.has_item(of)) && sources.has_member(of_type, name)
         } else if word.contains('/') {
             !word.contains(char::is_alphabetic) || has_file(word, sources)
         } else if let Some((of, name)) = word.split_once('.').filter(|(of, _)| is_name(of)) {

@@ -11,12 +11,11 @@ use std::process::Command;
 use std::time::SystemTime;
 
 /// What `printed-run` takes from the path, beside `rt`, and what the script that plays `rt` takes.
-const TOOLS: [&str; 12] = [
+const TOOLS: [&str; 11] = [
     "bash",
     "cat",
     "chmod",
     "dirname",
-    "env",
     "find",
     "mkdir",
     "readlink",

@@ -82,37 +82,36 @@ impl Checksum {
     }
 }
 
-/// Runs a script; the checksum of the lines.
-fn run<Answer>(script: &[u8], mut call: impl FnMut(Call, &mut [u8]) -> Answer) -> u64 {
+/// Makes the calls; the checksum of their lines.
+fn run<Answer>(calls: &[Call], mut make: impl FnMut(Call, &mut [u8]) -> Answer) -> u64 {
     let (mut log, mut checksum) = ([0; LOG_LENGTH], Checksum::default());
-    let mut records = Fields::of(script);
-    while let Some(record) = Call::read(&mut records) {
-        let _ = call(record, &mut log);
+    for &call in calls {
+        let _ = make(call, &mut log);
         checksum.add_lines(&log);
     }
     checksum.number()
 }
 
-/// Loads a document and runs a script on it; the checksum of the lines.
-type Run = fn(&[u8], &[u8]) -> u64;
+/// Loads a document and makes the calls on it; the checksum of their lines.
+type Run = fn(&[u8], &[Call]) -> u64;
 
 /// The session goes into each call by value and comes back by value, as whoever embeds the player
 /// hands it over.
-fn run_player(document: &[u8], script: &[u8]) -> u64 {
+fn run_player(document: &[u8], calls: &[Call]) -> u64 {
     let (mut session, _) = player::Session::load(document);
-    run(script, |call, log| session.call(call, log))
+    run(calls, |call, log| session.call(call, log))
 }
 
 /// The second engine on its own session, which is never broken and is not checked.
-fn run_second(document: &[u8], script: &[u8]) -> u64 {
+fn run_second(document: &[u8], calls: &[Call]) -> u64 {
     let mut session = load(document).expect("the document loads");
-    run(script, |call, log| session.call(call, log))
+    run(calls, |call, log| session.call(call, log))
 }
 
 /// The second engine on a written session, which it checks at each call as the player does.
-fn run_second_checked(document: &[u8], script: &[u8]) -> u64 {
+fn run_second_checked(document: &[u8], calls: &[Call]) -> u64 {
     let (mut session, _) = WrittenSession::load(document);
-    run(script, |call, log| session.call(call, log))
+    run(calls, |call, log| session.call(call, log))
 }
 
 fn timed(run: impl FnOnce() -> u64) -> (Duration, u64) {
@@ -121,17 +120,17 @@ fn timed(run: impl FnOnce() -> u64) -> (Duration, u64) {
     (start.elapsed(), answer)
 }
 
-/// Runs the script on all engines in this process, by turns; the best of some rounds each.
+/// Makes the calls on all engines in this process, by turns; the best of some rounds each.
 fn engine_times<const RUNS: usize>(
     runs: [Run; RUNS],
     document: &[u8],
-    script: &[u8],
+    calls: &[Call],
 ) -> [Duration; RUNS] {
     let mut best = [Duration::MAX; RUNS];
     let mut checksums = [0; RUNS];
     for _ in 0..ROUNDS {
         for (place, run) in runs.iter().enumerate() {
-            let (time, checksum) = timed(|| run(document, script));
+            let (time, checksum) = timed(|| run(document, calls));
             best[place] = best[place].min(time);
             checksums[place] = checksum;
         }
@@ -155,7 +154,7 @@ fn compare(name: &str, document: &[u8], script: &[u8]) {
     let (lines, firings) = lines_and_firings(document, &calls);
     println!("{name}, in one process: {} calls, {lines} lines, {firings} firings", calls.len());
     let [player, second, checked] =
-        engine_times([run_player, run_second, run_second_checked], document, script);
+        engine_times([run_player, run_second, run_second_checked], document, &calls);
     println!("  player                       {:8.2} µs a call", micros(player));
     println!(
         "  second engine, checked       {:8.2} µs a call; player / second = {:.2}",

@@ -9,107 +9,108 @@ use second_engine::document::{
 };
 use second_engine::Call;
 
+use crate::flat::{Empty, Fields, Walk};
+
 const ACTION_SLOTS: usize = MOST_LINKS * MOST_ACTIONS;
 
-#[repr(C)]
-#[derive(Clone, Copy)]
-pub struct Nodes {
-    pub count: usize,
-    pub types: [u8; MOST_NODES],
-    pub parents: [u8; MOST_NODES],
-    pub durations: [u16; MOST_NODES],
+/// Structs of C's layout, with the walk over their fields in this order.
+macro_rules! tables {
+    ($(struct $table:ident { $($field:ident: $type:ty,)* })*) => {$(
+        #[repr(C)]
+        #[derive(Clone, Copy)]
+        pub struct $table {
+            $(pub $field: $type,)*
+        }
+
+        impl Fields for $table {
+            fn walk(&mut self, walk: &mut Walk) {
+                $(self.$field.walk(walk);)*
+            }
+        }
+    )*};
 }
 
-#[repr(C)]
-#[derive(Clone, Copy)]
-pub struct Anchors {
-    pub count: usize,
-    pub media: [u8; MOST_ANCHORS],
-    pub begins: [u16; MOST_ANCHORS],
-    pub ends: [u16; MOST_ANCHORS],
-}
+tables! {
+    struct Nodes {
+        count: usize,
+        types: [u8; MOST_NODES],
+        parents: [u8; MOST_NODES],
+        durations: [u16; MOST_NODES],
+    }
 
-#[repr(C)]
-#[derive(Clone, Copy)]
-pub struct Rules {
-    pub count: usize,
-    pub kinds: [u8; MOST_RULES],
-    pub properties: [u8; MOST_RULES],
-    pub comparators: [u8; MOST_RULES],
-    pub values: [i32; MOST_RULES],
-    pub operators: [u8; MOST_RULES],
-    pub lefts: [u8; MOST_RULES],
-    pub rights: [u8; MOST_RULES],
-}
+    struct Anchors {
+        count: usize,
+        media: [u8; MOST_ANCHORS],
+        begins: [u16; MOST_ANCHORS],
+        ends: [u16; MOST_ANCHORS],
+    }
 
-#[repr(C)]
-#[derive(Clone, Copy)]
-pub struct Binds {
-    pub count: usize,
-    pub switches: [u8; MOST_BINDS],
-    pub children: [u8; MOST_BINDS],
-    pub rules: [u8; MOST_BINDS],
-}
+    struct Rules {
+        count: usize,
+        kinds: [u8; MOST_RULES],
+        properties: [u8; MOST_RULES],
+        comparators: [u8; MOST_RULES],
+        values: [i32; MOST_RULES],
+        operators: [u8; MOST_RULES],
+        lefts: [u8; MOST_RULES],
+        rights: [u8; MOST_RULES],
+    }
 
-#[repr(C)]
-#[derive(Clone, Copy)]
-pub struct Ports {
-    pub count: usize,
-    pub contexts: [u8; MOST_PORTS],
-    pub children: [u8; MOST_PORTS],
-}
+    struct Binds {
+        count: usize,
+        switches: [u8; MOST_BINDS],
+        children: [u8; MOST_BINDS],
+        rules: [u8; MOST_BINDS],
+    }
 
-#[repr(C)]
-#[derive(Clone, Copy)]
-pub struct Links {
-    pub count: usize,
-    pub owners: [u8; MOST_LINKS],
-    pub classes: [u8; MOST_LINKS],
-    pub subjects: [u8; MOST_LINKS],
-    pub transitions: [u8; MOST_LINKS],
-    pub guards: [u8; MOST_LINKS],
-    pub action_counts: [u8; MOST_LINKS],
-}
+    struct Ports {
+        count: usize,
+        contexts: [u8; MOST_PORTS],
+        children: [u8; MOST_PORTS],
+    }
 
-#[repr(C)]
-#[derive(Clone, Copy)]
-pub struct Actions {
-    pub actions: [u8; ACTION_SLOTS],
-    pub targets: [u8; ACTION_SLOTS],
-    pub values: [i32; ACTION_SLOTS],
-}
+    struct Links {
+        count: usize,
+        owners: [u8; MOST_LINKS],
+        classes: [u8; MOST_LINKS],
+        subjects: [u8; MOST_LINKS],
+        transitions: [u8; MOST_LINKS],
+        guards: [u8; MOST_LINKS],
+        action_counts: [u8; MOST_LINKS],
+    }
 
-#[repr(C)]
-#[derive(Clone, Copy)]
-pub struct Document {
-    pub limit: u8,
-    pub nodes: Nodes,
-    pub anchors: Anchors,
-    pub properties: usize,
-    pub rules: Rules,
-    pub binds: Binds,
-    pub ports: Ports,
-    pub links: Links,
-    pub actions: Actions,
-}
+    struct Actions {
+        actions: [u8; ACTION_SLOTS],
+        targets: [u8; ACTION_SLOTS],
+        values: [i32; ACTION_SLOTS],
+    }
 
-#[repr(C)]
-#[derive(Clone, Copy)]
-pub struct State {
-    pub node_state: [u8; MOST_NODES],
-    pub node_clock: [u16; MOST_NODES],
-    pub node_count: [u32; MOST_NODES],
-    pub anchor_state: [u8; MOST_ANCHORS],
-    pub anchor_count: [u32; MOST_ANCHORS],
-    pub property_value: [i32; MOST_PROPERTIES],
-    pub property_count: [u32; MOST_PROPERTIES],
-}
+    struct Document {
+        limit: u8,
+        nodes: Nodes,
+        anchors: Anchors,
+        properties: usize,
+        rules: Rules,
+        binds: Binds,
+        ports: Ports,
+        links: Links,
+        actions: Actions,
+    }
 
-#[repr(C)]
-#[derive(Clone, Copy)]
-pub struct Session {
-    pub document: Document,
-    pub state: State,
+    struct State {
+        node_state: [u8; MOST_NODES],
+        node_clock: [u16; MOST_NODES],
+        node_count: [u32; MOST_NODES],
+        anchor_state: [u8; MOST_ANCHORS],
+        anchor_count: [u32; MOST_ANCHORS],
+        property_value: [i32; MOST_PROPERTIES],
+        property_count: [u32; MOST_PROPERTIES],
+    }
+
+    struct Session {
+        document: Document,
+        state: State,
+    }
 }
 
 #[repr(C)]
@@ -160,13 +161,14 @@ impl ReturnedSession {
     }
 }
 
-impl Session {
-    /// All zero.
-    pub fn empty() -> Self {
+impl Empty for Session {
+    fn empty() -> Self {
         // Safety: every field is a number or an array of numbers.
         unsafe { MaybeUninit::zeroed().assume_init() }
     }
+}
 
+impl Session {
     pub fn load(document: &[u8]) -> (Session, Answer) {
         // Safety: the slice lives through the call, which only reads it.
         let returned = unsafe { probe_load(document.as_ptr(), document.len()) };

@@ -1,15 +1,16 @@
 -- The induction over lists of calls, accepted and refused: what is kept inside a run is kept from session to session.
 use Prim.Native.Nat.{ℕ, _≤_}
 use native.Mathlib.Omega.{arith}
-use mathlib.Core.Bool.{false}
+use mathlib.Core.Bool.{true, false, true≢false}
 use mathlib.Core.List.{List, [], _∷_, _++_, append-assoc, append-nil}
-use mathlib.Core.Path.{_≡_, refl, _∙_}
+use mathlib.Core.Path.{_≡_, refl, sym, _∙_}
 use lib.Dec.{lit<, lit≤}
-use lib.IntN.{ℤ}
-use borrow.Author.Tests.{eqb-true, eqb-false, ne-eqb, leb-true, not-false}
-use Rattle.base.specs.Tests.{if_then_else_, _=?_, by-test, both-pass, no-fault}
+use lib.IntN.{ℤ, pos}
+use borrow.Author.Tests.{eqb-true, eqb-false, ne-eqb, leb-true, not-true, not-false}
+use Rattle.base.specs.Tests.{if_then_else_, _=?_, both-pass, no-fault}
 use Rattle.machine.specs.Records.{actionRight}
-use Rattle.machine.specs.Log.{emptyLog, linesOf}
+use Rattle.machine.specs.Answers.{accepted}
+use Rattle.machine.specs.Log.{emptyLog, sliceWith, linesOf}
 use Rattle.machine.specs.Events.{Run}
 use Rattle.machine.specs.Broken.{broken}
 use Rattle.machine.specs.Operations.{Call, command, key, tick, CallResult, argumentFault, begun, runOf, callRefused, ended, call, sessionAfter, resultsOf, joined}
@@ -25,6 +26,37 @@ use Rattle.machine.proofs.Firings.{FiredRun, firings, read-back}
 use Rattle.machine.proofs.Shape.{Shaped, state-ends}
 use Rattle.machine.proofs.Settling.{RightRun, rights}
 use Rattle.machine.proofs.Whole.{WholeTests, whole, unbroken-sound, not-broken, states-right, right-states}
+
+-- ---- a call is refused, and the session stays; or its run is accepted
+
+fault-low : (d : Document) (c : Call) → argumentFault d c ≤ 10
+unfolding argumentFault
+fault-low d (command action t value) = chosen (λ n. n ≤ 10) _ (λ _. lit≤ tt) (λ _. chosen (λ n. n ≤ 10) _ (λ _. lit≤ tt) (λ _. lit≤ tt))
+fault-low d (key code) = lit≤ tt
+fault-low d tick = lit≤ tt
+
+abbrev acceptedRun : Session → ℕ → Run → CallResult
+acceptedRun s bytes r = record {
+  answer = accepted (pos (r .firings) ∷ []);
+  session = record { document = s .document; state = r .state };
+  log = sliceWith (r .log .lines) bytes;
+}
+
+pub call-gives : (s : Session) (c : Call) (bytes : ℕ) (P : CallResult → Type 0)
+    → ((number : ℕ) → (number ≡ 0 → ⊥) → (number ≡ 13 → broken s ≡ true) → P (callRefused number s bytes))
+    → (argumentFault (s .document) c ≡ 0 → runOf s c bytes .log .full ≡ false → runOf s c bytes .limited ≡ false → P (acceptedRun s bytes (runOf s c bytes)))
+    → P (call s c bytes)
+unfolding call ended
+call-gives s c bytes P refused kept =
+    chosen P _ (λ b. refused 13 (λ e. omega arith) (λ _. b))
+    (λ _. chosen P _ (λ f. refused _ (eqb-false _ _ (not-true _ f)) (λ q. absurd (omega (arith, fault-low (s .document) c))))
+    (λ f. chosen P _ (λ _. refused 12 (λ e. omega arith) (λ e. absurd (omega arith)))
+    (λ full. chosen P _ (λ _. refused 11 (λ e. omega arith) (λ e. absurd (omega arith)))
+    (λ limited. kept (eqb-true _ _ (not-false _ f)) full limited))))
+
+-- the lines so far, and those of a call
+abbrev pub linesAfter : List Line → CallResult → List Line
+linesAfter h r = h ++ (if r .answer .refusal =? 0 then linesOf (r .log) else [])
 
 -- ---- all that is kept, together
 
@@ -66,7 +98,7 @@ module _ (h : List Line) (s : Session) (invariant : Invariant h s) where
   abbrev first : ℕ → Run
   first bytes = record { state = s .state; log = emptyLog bytes; firings = 0; limited = false }
 
-  first-kept : (bytes : ℕ) → Kept (first bytes)
+  pub first-kept : (bytes : ℕ) → Kept (first bytes)
   unfolding number
   first-kept bytes =
       let r = states-right d (s .state) (tests .states) in (
@@ -74,7 +106,7 @@ module _ (h : List Line) (s : Session) (invariant : Invariant h s) where
         record { timed = record { shaped = invariant .shaped; timed = r .timed }; composed = r .composed },
       )
 
-  target : (action t : ℕ) (value : ℤ) → argumentFault d (command action t value) ≡ 0 → Target d action t
+  pub target : (action t : ℕ) (value : ℤ) → argumentFault d (command action t value) ≡ 0 → Target d action t
   unfolding argumentFault actionRight
   target action t value e =
       let a = no-fault _ 9 _ (lit< tt) e in
@@ -84,43 +116,33 @@ module _ (h : List Line) (s : Session) (invariant : Invariant h s) where
       let g = not-false _ (b .0) in
       record { least = leb-true _ _ (l .0); node = target-node d action t g; property = target-property d action t g }
 
-  begun-kept : (c : Call) → argumentFault d c ≡ 0 → (r : Run) → Kept r → Kept (begun d c r)
-  unfolding begun
-  begun-kept (command action t value) e r k = keeps .action action t value r (target action t value e) k
-  begun-kept (key code) e r k = keeps .lines .key code r k
-  begun-kept tick e r k = keeps .tick r k
+  -- what actions keep, a call keeps
+  module _ (P : Run → Type 0) (keep : Actions d P) where
+    pub begun-keeps : (c : Call) → argumentFault d c ≡ 0 → (r : Run) → P r → P (begun d c r)
+    unfolding begun
+    begun-keeps (command action t value) e r k = keep .action action t value r (target action t value e) k
+    begun-keeps (key code) e r k = keep .lines .key code r k
+    begun-keeps tick e r k = keep .tick r k
 
-  run-kept : (c : Call) (bytes : ℕ) → argumentFault d c ≡ 0 → Kept (runOf s c bytes)
-  unfolding runOf
-  run-kept c bytes e = chained-keeps d Kept facts keeps _ (begun-kept c e _ (first-kept bytes))
+    pub run-keeps : (c : Call) (bytes : ℕ) → argumentFault d c ≡ 0 → P (first bytes) → P (runOf s c bytes)
+    unfolding runOf
+    run-keeps c bytes e k = chained-keeps d P facts keep _ (begun-keeps c e _ k)
+
+  pub run-kept : (c : Call) (bytes : ℕ) → argumentFault d c ≡ 0 → Kept (runOf s c bytes)
+  run-kept c bytes e = run-keeps Kept keeps c bytes e (first-kept bytes)
 
   -- ---- what a call returns
 
-  record Returned (r : CallResult) : Type 0 where
-    still : Invariant (h ++ (if r .answer .refusal =? 0 then linesOf (r .log) else [])) (r .session)
+  pub record Returned (r : CallResult) : Type 0 where
+    pub still : Invariant (linesAfter h r) (r .session)
     fires : ReportsFirings (d .limit) r
     never : r .answer .refusal ≡ 13 → ⊥
     tables : r .session .document ≡ d
 
-  refused-returns : (number bytes : ℕ) → (number ≡ 0 → ⊥) → (number ≡ 13 → ⊥) → Returned (callRefused number s bytes)
-  unfolding callRefused if_then_else_
-  refused-returns number bytes z t = record {
-    still = rw (ne-eqb number 0 z, append-nil) invariant;
-    fires = record { reports = λ e. absurd (z e); within = λ e. absurd (z e) };
-    never = t;
-    tables = refl;
-  }
-
-  ended-returns : (bytes : ℕ) (r : Run) → Kept r → Returned (ended s bytes r)
-  unfolding ended if_then_else_
-  ended-returns bytes r k =
-      by-test (r .log .full)
-      (λ f. rw f (refused-returns 12 bytes (λ e. omega arith) (λ e. omega arith)))
-      (λ f. rw f
-      (by-test (r .limited)
-      (λ m. rw m (refused-returns 11 bytes (λ e. omega arith) (λ e. omega arith)))
-      (λ m. rw m
-      (let back = read-back (r .log .lines) bytes (k .0 .1 .classed) in
+  accepted-returns : (bytes : ℕ) (r : Run) → Kept r → r .log .full ≡ false → Returned (acceptedRun s bytes r)
+  unfolding if_then_else_
+  accepted-returns bytes r k f =
+      let back = read-back (r .log .lines) bytes (k .0 .1 .classed) in
       let right = k .1 in
       record {
         still = rw back (record {
@@ -139,21 +161,19 @@ module _ (h : List Line) (s : Session) (invariant : Invariant h s) where
         };
         never = λ e. omega arith;
         tables = refl;
-      }))))
+      }
 
-  fault-low : (c : Call) → argumentFault d c ≤ 10
-  unfolding argumentFault
-  fault-low (command action t value) = chosen (λ n. n ≤ 10) _ (λ _. lit≤ tt) (λ _. chosen (λ n. n ≤ 10) _ (λ _. lit≤ tt) (λ _. lit≤ tt))
-  fault-low (key code) = lit≤ tt
-  fault-low tick = lit≤ tt
-
-  call-returns : (c : Call) (bytes : ℕ) → Returned (call s c bytes)
-  unfolding call if_then_else_
+  pub call-returns : (c : Call) (bytes : ℕ) → Returned (call s c bytes)
+  unfolding callRefused if_then_else_
   call-returns c bytes =
-      rw (invariant .unbroken)
-      (by-test (argumentFault d c =? 0)
-      (λ e. rw e (ended-returns bytes _ (run-kept c bytes (eqb-true _ _ e))))
-      (λ e. rw e (refused-returns _ bytes (eqb-false _ _ e) (λ q. omega (arith, fault-low c)))))
+      call-gives s c bytes Returned
+      (λ number z t. record {
+        still = rw (ne-eqb number 0 z, append-nil) invariant;
+        fires = record { reports = λ e. absurd (z e); within = λ e. absurd (z e) };
+        never = λ e. true≢false (sym (t e) ∙ invariant .unbroken);
+        tables = refl;
+      })
+      (λ e full _. accepted-returns bytes _ (run-kept c bytes e) full)
 
 -- ---- lists of calls
 

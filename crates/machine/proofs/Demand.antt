@@ -12,17 +12,16 @@ use Rattle.machine.specs.Tables.{parentOf, anchorAt}
 use Rattle.machine.specs.Load.{load}
 use Rattle.machine.specs.Events.{nodeState, nodeClock, anchorState, childIn, childrenState}
 use Rattle.machine.specs.Broken.{anchorStateIn}
-use Rattle.machine.specs.Operations.{Call, CallResult, callRefused, ended, call, sessionAfter, resultsOf}
+use Rattle.machine.specs.Operations.{Call, callRefused, call, sessionAfter, resultsOf}
 use Rattle.machine.specs.Demand3.{AChildIs, CompositeRule, AnchorRule, Balanced, Holds, ForEveryList}
 use Rattle.machine.specs.declared.Document.{Document}
 use Rattle.machine.specs.declared.State.{State}
 use Rattle.machine.specs.declared.Session.{Session}
 use Rattle.machine.specs.declared.Line.{Line}
-use Rattle.machine.proofs.Keep.{chosen}
 use Rattle.machine.proofs.Tally.{oneIfAwake, EventTallied}
 use Rattle.machine.proofs.Whole.{whole, states-right}
 use Rattle.machine.proofs.FirstSession.{loaded-invariant}
-use Rattle.machine.proofs.Calls.{Invariant, after-calls}
+use Rattle.machine.proofs.Calls.{call-gives, Invariant, after-calls}
 
 -- ---- the composite rule, from the state that the children give
 
@@ -70,7 +69,7 @@ module _ (d : Document) (s : State) (c : ℕ) where
 
 -- ---- the anchor rule, from the state that the media gives
 
-anchor-rule : (d : Document) (s : State) (a : ℕ) → anchorState s a ≡ anchorStateIn d s a → AnchorRule d s a
+pub anchor-rule : (d : Document) (s : State) (a : ℕ) → anchorState s a ≡ anchorStateIn d s a → AnchorRule d s a
 unfolding anchorStateIn if_then_else_
 anchor-rule d s a e =
     let begin = anchorAt (d .anchors) a .begin in
@@ -104,15 +103,8 @@ balanced class id state count ls e = record {
 -- ---- a refused call leaves the session, whatever the session is
 
 refused-leaves : (s : Session) (c : Call) (bytes : ℕ) → (call s c bytes .answer .refusal ≡ 0 → ⊥) → call s c bytes .session ≡ s
-unfolding call ended callRefused
-refused-leaves s c bytes =
-    chosen Leaves _ (λ _ _. refl)
-    (λ _. chosen Leaves _ (λ _ _. refl)
-    (λ _. chosen Leaves _ (λ _ _. refl)
-    (λ _. chosen Leaves _ (λ _ _. refl) (λ _ n. absurd (n refl)))))
-  where
-    Leaves : CallResult → Type 0
-    Leaves r = (r .answer .refusal ≡ 0 → ⊥) → r .session ≡ s
+unfolding callRefused
+refused-leaves s c bytes = call-gives s c bytes (λ r. (r .answer .refusal ≡ 0 → ⊥) → r .session ≡ s) (λ _ _ _ _. refl) (λ _ _ _ n. absurd (n refl))
 
 -- ---- all of it, from a session that has what is kept, before any line
 

@@ -1,20 +1,26 @@
 -- What a move of a node and a pass over the anchors do to each entry.
 use Prim.Native.Nat.{ℕ, suc, _≤_, _<_}
 use native.Mathlib.Omega.{arith}
-use mathlib.Core.Bool.{Bool, false, _&&_}
+use mathlib.Core.Bool.{Bool, false, _&&_, and-false}
 use mathlib.Core.List.{List}
 use mathlib.Core.Path.{_≡_, refl, sym, ap, _∙_}
-use lib.ListN.{length, getD, length-set}
+use lib.ListN.{length, getD, set, length-set}
 use lib.Seq.{getD-set-same, getD-set-other}
 use borrow.Author.Tests.{eqb-true, eqb-false, eq-eqb, ne-eqb}
 use Rattle.base.specs.Tests.{if_then_else_, _=?_, _≤?_, by-test}
 use Rattle.base.specs.Loops.{ascending-turns}
-use Rattle.machine.specs.Terms.{sleeping, noTransition}
+use Rattle.machine.specs.Terms.{sleeping, noTransition, starts}
 use Rattle.machine.specs.Tables.{anchorAt}
-use Rattle.machine.specs.Events.{Run, nodeState, nodeClock, anchorState, transition, clocked, nodeChanged, nodeTo, anchorChanged, anchorTo, anchorMoved, anchorsMoved}
+use Rattle.machine.specs.Events.{Run, nodeState, nodeClock, anchorState, awake, transition, clocked, nodeChanged, nodeTo, anchorChanged, anchorTo, anchorMoved, anchorsMoved}
 use Rattle.machine.specs.Demand3.{Awake}
 use Rattle.machine.specs.declared.Document.{Document}
 use Rattle.machine.proofs.Keep.{chosen}
+
+-- an entry, after one was set
+pub getD-set : {A : Type 0} (xs : List A) (i j : ℕ) (x default : A) → i < length xs → getD (set xs i x) j default ≡ (if i =? j then x else getD xs j default)
+unfolding if_then_else_
+getD-set xs i j x default h =
+    by-test (i =? j) (λ e. rw (e, ← eqb-true i j e) (getD-set-same xs i x default h)) (λ e. rw e (getD-set-other xs i j x default (λ q. eqb-false i j e (sym q))))
 
 -- ---- transitions
 
@@ -23,6 +29,16 @@ module _ (aborting : Bool) (old new : ℕ) where
   transition-same : old ≡ new → transition aborting old new ≡ noTransition
   unfolding transition if_then_else_
   transition-same e = rw (eq-eqb old new e)
+
+  -- it is a start exactly from sleeping to awake
+  pub starting : transition aborting old new =? starts ≡ (old =? sleeping && awake new)
+  unfolding transition if_then_else_
+  starting =
+      by-test (old =? new)
+      (λ e. rw (e, eqb-true old new e) (by-test (new =? 0) (λ n. rw n) (λ n. rw n)))
+      (λ e. by-test (new =? 0)
+      (λ n. rw (e, n, and-false) (by-test aborting (λ a. rw a) (λ a. rw a)))
+      (λ n. by-test (old =? 0) (λ o. rw (e, n, o)) (λ o. rw (e, n, o) (by-test (new =? 1) (λ b. rw b) (λ b. rw b)))))
 
   -- to another there is one; the clock goes to 0 on waking and on going to sleep, and stays in between
   record Turned : Type 0 where

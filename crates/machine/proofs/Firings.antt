@@ -18,7 +18,8 @@ use Rattle.machine.specs.Demand3.{isFired, firedLines}
 use Rattle.machine.specs.declared.Document.{Document}
 use Rattle.machine.specs.declared.Line.{Line}
 use Rattle.machine.proofs.Keep.{Primitives, chosen}
-use Rattle.machine.proofs.Tally.{oneIf, number-more, written}
+use Rattle.machine.proofs.Growing.{one-more}
+use Rattle.machine.proofs.Tally.{oneIf, number-more}
 
 -- ---- reading a slice back
 
@@ -63,9 +64,7 @@ classed-logged l g h c = chosen (λ (x : Log). Classed (x .lines)) _ (λ _. clas
 -- a line, of so many firings
 line-fired : (limit firings more : ℕ) (l : Line) (g : Log) → 0 < l .class → oneIf (isFired l) ≡ more → firings + more ≤ limit → Fired limit firings g → Fired limit (firings + more) (logged l g)
 line-fired limit firings more l g h e b p = record {
-  counted = λ f.
-      let w = written l g f in
-      rw (w .after, number-more isFired (g .lines) l, e) (ap (λ (k : ℕ). k + more) (p .counted (w .before)));
+  counted = one-more [] (λ ls. firings ≡ firedLines ls) (λ ls. firings + more ≡ firedLines ls) l g (λ ls q. rw (number-more isFired ls l, e, q)) (p .counted);
   below = b;
   classed = classed-logged l g h (p .classed);
 }
@@ -92,9 +91,11 @@ module _ (d : Document) where
   pub firings : Primitives d FiredRun
   unfolding nodeTo anchorTo setProperty keyed firingLogged limitMet isFired oneIf if_then_else_
   firings = record {
-    node = λ aborting n new r _ p. node-keeps n new _ r p;
-    anchor = λ aborting a new r _ p. anchor-keeps a new _ r p;
-    clock = λ n clock r _ p. p;
+    moves = record {
+      node = λ aborting n new r _ p. node-keeps n new _ r p;
+      anchor = λ aborting a new r _ p. anchor-keeps a new _ r p;
+      clock = λ n clock r _ p. p;
+    };
     property = λ i value r _ p. plain _ _ _ _ (lit< tt) refl (plain _ _ _ (r .log) (lit< tt) refl p);
     lines = record {
       key = λ code r p. plain _ _ _ (r .log) (lit< tt) refl p;

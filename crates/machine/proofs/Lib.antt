@@ -2,6 +2,7 @@ pub mod SoundTables
 pub mod Keep
 pub mod Columns
 pub mod Shape
+pub mod Growing
 pub mod Tally
 pub mod Firings
 pub mod Effects

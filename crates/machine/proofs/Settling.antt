@@ -62,7 +62,7 @@ module _ (d : Document) (sound : Sound d) where
       let children : (c : ℕ) → k ≤ c → c < d .nodes .count → childrenState (d .nodes) (nodeTo aborting k new y .state .«node_state») c ≡ childrenState (d .nodes) (y .state .«node_state») c
       = λ c kc cn. children-same (d .nodes) _ _ c (λ i il e. m .only .state i (λ q. omega (arith, child-later (sound .nodes) il cn e))) in
       record {
-        shaped = shapes d .node aborting k new y l (f .shaped);
+        shaped = shapes d .moves .node aborting k new y l (f .shaped);
         rule = λ c kc cn u. by-test (c =? k)
             (λ q. rw (children c kc cn, eqb-true c k q) (m .here))
             (λ q. rw (children c kc cn, m .only .state c (eqb-false c k q)) (f .rule c (omega (arith, eqb-false c k q)) cn u));
@@ -90,7 +90,7 @@ module _ (d : Document) (sound : Sound d) where
     };
     tick = λ r p. record {
       timed = timed-actions .tick r (p .timed);
-      composed = settled-composes _ _ _ (media-ticked-keeps d (TimedRun d sound) sound (times d sound) r (p .timed) .shaped);
+      composed = settled-composes _ _ _ (media-ticked-keeps d (TimedRun d sound) sound (times d sound .moves) r (p .timed) .shaped);
     };
     lines = record {
       key = λ code r p. record { timed = timed-actions .lines .key code r (p .timed); composed = p .composed };

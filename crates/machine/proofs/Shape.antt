@@ -35,11 +35,13 @@ module _ (d : Document) where
   pub shapes : Primitives d ShapedRun
   unfolding nodeTo nodeChanged anchorTo anchorChanged setProperty keyed firingLogged limitMet
   shapes = record {
-    node = λ aborting n new r h p.
-        chosen ShapedRun _ (λ _. p) (λ _. record { nodes = stored-row _ 64 n h (new ∷ _ ∷ _ ∷ []) (nodeTables (r .state)) (p .nodes); anchors = p .anchors; values = p .values; counts = p .counts });
-    anchor = λ aborting a new r h p.
-        chosen ShapedRun _ (λ _. p) (λ _. record { nodes = p .nodes; anchors = stored-row _ 128 a h (new ∷ _ ∷ []) (anchorTables (r .state)) (p .anchors); values = p .values; counts = p .counts });
-    clock = λ n clock r h p. record { nodes = (p .nodes .0, (stored n clock h (p .nodes .1 .0), p .nodes .1 .1)); anchors = p .anchors; values = p .values; counts = p .counts };
+    moves = record {
+      node = λ aborting n new r h p.
+          chosen ShapedRun _ (λ _. p) (λ _. record { nodes = stored-row _ 64 n h (new ∷ _ ∷ _ ∷ []) (nodeTables (r .state)) (p .nodes); anchors = p .anchors; values = p .values; counts = p .counts });
+      anchor = λ aborting a new r h p.
+          chosen ShapedRun _ (λ _. p) (λ _. record { nodes = p .nodes; anchors = stored-row _ 128 a h (new ∷ _ ∷ []) (anchorTables (r .state)) (p .anchors); values = p .values; counts = p .counts });
+      clock = λ n clock r h p. record { nodes = (p .nodes .0, (stored n clock h (p .nodes .1 .0), p .nodes .1 .1)); anchors = p .anchors; values = p .values; counts = p .counts };
+    };
     property = λ i value r h p. record { nodes = p .nodes; anchors = p .anchors; values = stored i value h (p .values); counts = stored i _ h (p .counts) };
     lines = record { key = λ code r p. p; firing = λ l r h p. p; limit = λ r p. p };
   }

@@ -2,16 +2,15 @@
 -- Kept by the smallest steps, because a state changes and its line is logged together.
 use Prim.Native.Nat.{ℕ, _+_, _%_, _<_}
 use native.Mathlib.Omega.{arith}
-use mathlib.Core.Bool.{Bool, true, false, true≢false, and-false}
-use mathlib.Core.List.{List, [], _∷_, _++_, append-assoc}
-use mathlib.Core.Path.{_≡_, refl, sym, ap, _∙_}
+use mathlib.Core.Bool.{Bool, false, and-false}
+use mathlib.Core.List.{List, [], _∷_, _++_}
+use mathlib.Core.Path.{_≡_, refl, sym, _∙_}
 use lib.IntN.{ℤ}
-use lib.ListN.{length}
 use lib.Seq.{getD-set-same, getD-set-other}
 use borrow.Author.Tests.{eqb-true, eqb-false, eq-eqb, ne-eqb}
-use Rattle.base.specs.Tests.{if_then_else_, _=?_, _<?_, by-test}
+use Rattle.base.specs.Tests.{if_then_else_, _=?_, by-test}
 use Rattle.machine.specs.Terms.{sleeping, occurring, starts, stops, aborts, ofNode, ofAnchor, ofProperty, noTransition}
-use Rattle.machine.specs.Log.{Log, line, logged}
+use Rattle.machine.specs.Log.{line}
 use Rattle.machine.specs.Events.{Run, nodeState, nodeCount, anchorState, anchorCount, propertyCount, transition, counted, withNode, withAnchor, withValue, nodeChanged, nodeTo, anchorChanged, anchorTo, setProperty}
 use Rattle.machine.specs.Tick.{keyed}
 use Rattle.machine.specs.Chain.{firingLogged, limitMet}
@@ -22,6 +21,7 @@ use Rattle.machine.specs.declared.State.{State}
 use Rattle.machine.specs.declared.Line.{Line}
 use Rattle.machine.proofs.Keep.{Primitives}
 use Rattle.machine.proofs.Shape.{Shaped, shapes}
+use Rattle.machine.proofs.Growing.{one-more}
 
 unfoldable pub oneIf : Bool → ℕ
 oneIf b = if b then 1 else 0
@@ -44,33 +44,24 @@ isLine-other : (class id t j u : ℕ) → (j ≡ id → ⊥) → isLine class j 
 unfolding isLine
 isLine-other class id t j u d = rw (ne-eqb id j (λ e. d (sym e)), and-false)
 
--- ---- each transition keeps the balance: by the tests old = new, new = 0, old = 0, new = 1
+-- ---- each transition keeps the balance
 
 unfoldable pub oneIfAwake : ℕ → ℕ
 oneIfAwake state = if state =? sleeping then 0 else 1
 
-balance-by-tests : (aborting same new-sleeps old-sleeps occurs : Bool) → (same ≡ true → old-sleeps ≡ new-sleeps) → (same ≡ false → new-sleeps ≡ true → old-sleeps ≡ false)
-    → let u : ℕ = if same then 0 else if new-sleeps then (if aborting then 3 else 2) else if old-sleeps then 1 else if occurs then 5 else 4 in
-    oneIf (u =? 1) + (if old-sleeps then 0 else 1) ≡ oneIf (u =? 2) + oneIf (u =? 3) + (if new-sleeps then 0 else 1)
-unfolding oneIf if_then_else_
-balance-by-tests ab true true true o h k = refl
-balance-by-tests ab true false false o h k = refl
-balance-by-tests ab true true false o h k = absurd (true≢false (sym (h refl)))
-balance-by-tests ab true false true o h k = absurd (true≢false (h refl))
-balance-by-tests true false true false o h k = refl
-balance-by-tests false false true false o h k = refl
-balance-by-tests ab false true true o h k = absurd (true≢false (k refl refl))
-balance-by-tests ab false false true o h k = refl
-balance-by-tests ab false false false true h k = refl
-balance-by-tests ab false false false false h k = refl
-
 balance : (aborting : Bool) (old new : ℕ) → let u = transition aborting old new in
     oneIf (u =? starts) + oneIfAwake old ≡ oneIf (u =? stops) + oneIf (u =? aborts) + oneIfAwake new
-unfolding transition oneIfAwake
+unfolding transition oneIf oneIfAwake if_then_else_
 balance aborting old new =
-    balance-by-tests aborting (old =? new) (new =? 0) (old =? 0) (new =? 1)
-    (λ e. ap (λ (k : ℕ). k =? 0) (eqb-true old new e))
-    (λ e z. ne-eqb old 0 (λ q. eqb-false old new e (q ∙ sym (eqb-true new 0 z))))
+    by-test (old =? new)
+    (λ e. rw (e, eqb-true old new e))
+    (λ e. by-test (new =? 0)
+    (λ n.
+    let o = ne-eqb old 0 (λ q. eqb-false old new e (q ∙ sym (eqb-true new 0 n))) in
+    by-test aborting (λ a. rw (e, n, o, a)) (λ a. rw (e, n, o, a)))
+    (λ n. by-test (old =? 0)
+    (λ o. rw (e, n, o))
+    (λ o. by-test (new =? 1) (λ p. rw (e, n, o, p)) (λ p. rw (e, n, o, p)))))
 
 -- ---- an event's state and count, against lines
 
@@ -107,30 +98,11 @@ pub record Tallied (d : Document) (s : State) (ls : List Line) : Type 0 where
   pub anchors : (a : ℕ) → a < d .anchors .count → EventTallied ofAnchor a (anchorState s a) (anchorCount s a) ls
   pub properties : (p : ℕ) → p < d .properties → EventTallied ofProperty p sleeping (propertyCount s p) ls
 
--- a line that is written: all before it fitted
-pub record Written (l : Line) (g : Log) : Type 0 where
-  pub before : g .full ≡ false
-  pub after : logged l g .lines ≡ g .lines ++ (l ∷ [])
-
-pub written : (l : Line) (g : Log) → logged l g .full ≡ false → Written l g
-unfolding logged if_then_else_
-written l g =
-    by-test (length (g .lines) <? g .room)
-    (λ e. rw e (λ f. record { before = f; after = rw e }))
-    (λ e. rw e (λ f. absurd (true≢false f)))
-
 -- after the lines h of the calls before
 module _ (h : List Line) (d : Document) (sound : Sound d) where
   -- if all lines fitted
   abbrev pub TalliedRun : Run → Type 0
   TalliedRun r = Shaped d (r .state) × (r .log .full ≡ false → Tallied d (r .state) (h ++ r .log .lines))
-
-  -- one more line, in a state that may have changed
-  more : (P Q : List Line → Type 0) (l : Line) (g : Log) → ((ls : List Line) → P ls → Q (ls ++ (l ∷ [])))
-      → (g .full ≡ false → P (h ++ g .lines)) → logged l g .full ≡ false → Q (h ++ logged l g .lines)
-  more P Q l g k q f =
-      let w = written l g f in
-      rw (w .after, ← append-assoc) (k _ (q (w .before)))
 
   -- the line of a key or of a firing
   tallied-still : (s : State) (l : Line) → ((i t : ℕ) → isLine ofNode i t l ≡ false) → ((i t : ℕ) → isLine ofAnchor i t l ≡ false) → ((i t : ℕ) → isLine ofProperty i t l ≡ false)
@@ -188,27 +160,27 @@ module _ (h : List Line) (d : Document) (sound : Sound d) where
   pub tallies : Primitives d TalliedRun
   unfolding nodeTo nodeChanged anchorTo anchorChanged setProperty keyed firingLogged limitMet isLine if_then_else_
   tallies = record {
-    node = λ aborting n new r k p. (
-      shapes d .node aborting n new r k (p .0),
-      by-test (transition aborting (nodeState (r .state) n) new =? noTransition) (λ e. rw e (p .1))
-          (λ e. rw e (more (Tallied d (r .state)) (Tallied d _) _ (r .log) (node-moved aborting n new _ (r .state) k (p .0)) (p .1))),
-    );
-    anchor = λ aborting a new r k p. (
-      shapes d .anchor aborting a new r k (p .0),
-      by-test (transition aborting (anchorState (r .state) a) new =? noTransition) (λ e. rw e (p .1))
-          (λ e. rw e (more (Tallied d (r .state)) (Tallied d _) _ (r .log) (anchor-moved aborting a new (r .state) k (p .0)) (p .1))),
-    );
-    clock = λ n clock r k p. (shapes d .clock n clock r k (p .0), λ f. record { nodes = p .1 f .nodes; anchors = p .1 f .anchors; properties = p .1 f .properties });
+    moves = record {
+      node = λ aborting n new r k p. (
+        shapes d .moves .node aborting n new r k (p .0),
+        by-test (transition aborting (nodeState (r .state) n) new =? noTransition) (λ e. rw e (p .1))
+            (λ e. rw e (one-more h (Tallied d (r .state)) (Tallied d _) _ (r .log) (node-moved aborting n new _ (r .state) k (p .0)) (p .1))),
+      );
+      anchor = λ aborting a new r k p. (
+        shapes d .moves .anchor aborting a new r k (p .0),
+        by-test (transition aborting (anchorState (r .state) a) new =? noTransition) (λ e. rw e (p .1))
+            (λ e. rw e (one-more h (Tallied d (r .state)) (Tallied d _) _ (r .log) (anchor-moved aborting a new (r .state) k (p .0)) (p .1))),
+      );
+      clock = λ n clock r k p. (shapes d .moves .clock n clock r k (p .0), λ f. record { nodes = p .1 f .nodes; anchors = p .1 f .anchors; properties = p .1 f .properties });
+    };
     property = λ i value r k p. (
       shapes d .property i value r k (p .0),
-      λ f.
-          let w = written (line ofProperty i stops) (logged (line ofProperty i starts) (r .log)) f in
-          let v = written (line ofProperty i starts) (r .log) (w .before) in
-          rw (w .after, v .after, ← append-assoc, ← append-assoc) (property-set i value (r .state) k (p .0) _ (p .1 (v .before))),
+      let Then : List Line → Type 0 = λ ls. Tallied d (setProperty i value r .state) (ls ++ (line ofProperty i stops ∷ [])) in
+          one-more h Then (Tallied d _) _ _ (λ ls q. q) (one-more h (Tallied d (r .state)) Then _ (r .log) (property-set i value (r .state) k (p .0)) (p .1)),
     );
     lines = record {
-      key = λ code r p. (p .0, more (Tallied d (r .state)) (Tallied d (r .state)) _ (r .log) (tallied-still _ _ (λ _ _. refl) (λ _ _. refl) (λ _ _. refl)) (p .1));
-      firing = λ l r _ p. (p .0, more (Tallied d (r .state)) (Tallied d (r .state)) _ (r .log) (tallied-still _ _ (λ _ _. refl) (λ _ _. refl) (λ _ _. refl)) (p .1));
+      key = λ code r p. (p .0, one-more h (Tallied d (r .state)) (Tallied d (r .state)) _ (r .log) (tallied-still _ _ (λ _ _. refl) (λ _ _. refl) (λ _ _. refl)) (p .1));
+      firing = λ l r _ p. (p .0, one-more h (Tallied d (r .state)) (Tallied d (r .state)) _ (r .log) (tallied-still _ _ (λ _ _. refl) (λ _ _. refl) (λ _ _. refl)) (p .1));
       limit = λ r p. p;
     };
   }

@@ -9,7 +9,7 @@ use lib.Dec.{lit≤, eqb·suc-zero, leb·suc-zero}
 use lib.ListN.{length, getD, set}
 use lib.Seq.{getD-set-same, getD-set-other}
 use borrow.Author.Tests.{eqb-true, eqb-false, eq-eqb, ne-eqb, lt-ltb, le-ltb, le-leb, lt-leb, ltb-true, ltb-false, leb-true, leb-false}
-use Rattle.base.specs.Tests.{if_then_else_, _=?_, _<?_, _≤?_, by-test, both-pass}
+use Rattle.base.specs.Tests.{if_then_else_, _=?_, _<?_, _≤?_, by-test}
 use Rattle.machine.specs.Terms.{sleeping, occurring, paused, toStart, toStop, toAbort}
 use Rattle.machine.specs.Tables.{isMedia, durationOf, anchorAt}
 use Rattle.machine.specs.Events.{Run, nodeState, nodeClock, anchorState, nextStates, nextState, withState, beginsAt, endsAt, isAwake, follows, nodeTo, setProperty, anchorsMoved, mediaTo, mediaMoved}
@@ -20,7 +20,7 @@ use Rattle.machine.specs.Demand3.{Awake}
 use Rattle.machine.specs.Sound.{Sound}
 use Rattle.machine.specs.declared.Document.{Document}
 use Rattle.machine.specs.declared.State.{State}
-use Rattle.machine.proofs.Keep.{Steps, steps, anchors-passed-keep, passed-keeps, chosen}
+use Rattle.machine.proofs.Keep.{Steps, steps, anchors-passed-keep, passed-keeps, chosen, all-pass}
 use Rattle.machine.proofs.Shape.{Shaped, ShapedRun, shapes}
 use Rattle.machine.proofs.Effects.{moved-from, RunOnly, RunMoved, node-moves, node-leaves-anchors, moving, Passed, anchors-pass}
 
@@ -92,9 +92,12 @@ start-wakes (suc zero) d = absurd (d refl)
 start-wakes (suc (suc zero)) d = absurd (d refl)
 start-wakes (suc (suc (suc s))) d = absurd (d refl)
 
-start-occurs : nextState sleeping toStart ≡ occurring
+pub start-awake : (s : ℕ) → Awake (nextState s toStart)
 unfolding nextState
-start-occurs = refl
+start-awake zero e = omega arith
+start-awake (suc zero) e = omega arith
+start-awake (suc (suc zero)) e = omega arith
+start-awake (suc (suc (suc s))) e = omega arith
 
 none-wakes : (action : ℕ) → toStart ≤ action → (action ≡ toStart → ⊥) → nextState sleeping action ≡ sleeping
 unfolding nextState
@@ -128,7 +131,7 @@ pub record NodeTimed (d : Document) (n state clock : ℕ) : Type 0 where
 abbrev TimedAt : Document → State → ℕ → Type 0
 TimedAt d s n = NodeTimed d n (nodeState s n) (nodeClock s n)
 
-abbrev Follows : Document → State → ℕ → Type 0
+abbrev pub Follows : Document → State → ℕ → Type 0
 Follows d s a = anchorState s a ≡ anchorStateIn d s a
 
 pub record Timed (d : Document) (s : State) : Type 0 where
@@ -214,9 +217,8 @@ module _ (d : Document) (sound : Sound d) where
         (by-test (action =? toStart)
         (λ s.
         let wakes : old ≡ 0 = start-wakes old (λ z. change (rw (eqb-true action toStart s) z)) in
-        let occurs : new ≡ 1 = rw (eqb-true action toStart s, wakes) start-occurs in
         let none : z ≡ 0 = q ∙ rw wakes (choice-same (inside a (nodeClock (x .state) n)) 0) in
-        let clock : nodeClock (y .state) n ≡ 0 = m .node .clock-wakes wakes (λ z. omega (arith, occurs)) in
+        let clock : nodeClock (y .state) n ≡ 0 = m .node .clock-wakes wakes (rw (eqb-true action toStart s) (start-awake old)) in
         rw (s, none, clock, begins-zero (anchorAt (d .anchors) a .begin) (anchorAt (d .anchors) a .end) (sound .anchor-span a l)))
         (λ s. by-test (new =? 0)
         (λ u. rw (s, eqb-true new 0 u, sleeps-rule z, choice-same _ 0))
@@ -296,7 +298,7 @@ module _ (d : Document) (sound : Sound d) where
         rw (begun .done a l, ended .done a l, e, eq-eqb n n refl, clock-here, states-same, occurs)
         (tick-rule (nodeClock (r .state) n) (anchorAt (d .anchors) a .begin) (anchorAt (d .anchors) a .end) (anchorState (r .state) a) (sound .anchor-span a l) (rw (e, occurs) at (p .anchors a l)))
 
-    anchors : (a : ℕ) → a < d .anchors .count → Follows d (z .state) a
+    pub anchors : (a : ℕ) → a < d .anchors .count → Follows d (z .state) a
     unfolding moving if_then_else_
     anchors = anchors-again n r z only (p .anchors) own-anchor (λ a l u. rw (begun .done a l, ended .done a l, ne-eqb (owner a) n u))
 
@@ -340,25 +342,26 @@ module _ (d : Document) (sound : Sound d) where
   tick-keeps n r h p =
       chosen TimedRun _
       (λ e.
-      let a = both-pass _ _ e in
-      let b = both-pass _ _ (a .0) in
+      let b = all-pass _ _ _ e in
       record {
-        shaped = passed-keeps d (ShapedRun d) (shapes d) n _ r h (p .shaped);
-        timed = passed-timed n r h (b .0) (eqb-true _ _ (b .1)) (p .shaped) (p .timed) (anchors-passed-keep d (ShapedRun d) (shapes d) n _ r h (p .shaped));
+        shaped = passed-keeps d (ShapedRun d) (shapes d .moves) n _ r h (p .shaped);
+        timed = passed-timed n r h (b .0) (eqb-true _ _ (b .1)) (p .shaped) (p .timed) (anchors-passed-keep d (ShapedRun d) (shapes d .moves) n _ r h (p .shaped));
       })
       (λ _. p)
 
   pub times : Steps d TimedRun
   unfolding setProperty keyed firingLogged limitMet anchorStateIn
   times = record {
-    media = λ action n r one h type p. record {
-      shaped = shape-steps .media action n r one h type (p .shaped);
-      timed = media-timed action n r one h type (p .shaped) (p .timed);
-    };
-    tick = tick-keeps;
-    composite = λ aborting c new r h type low p. record {
-      shaped = shape-steps .composite aborting c new r h type low (p .shaped);
-      timed = composite-timed aborting c new r h type low (p .shaped) (p .timed);
+    moves = record {
+      media = λ action n r one h type p. record {
+        shaped = shape-steps .moves .media action n r one h type (p .shaped);
+        timed = media-timed action n r one h type (p .shaped) (p .timed);
+      };
+      tick = tick-keeps;
+      composite = λ aborting c new r h type low p. record {
+        shaped = shape-steps .moves .composite aborting c new r h type low (p .shaped);
+        timed = composite-timed aborting c new r h type low (p .shaped) (p .timed);
+      };
     };
     property = λ i value r h p. record {
       shaped = shape-steps .property i value r h (p .shaped);

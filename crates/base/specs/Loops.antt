@@ -37,6 +37,11 @@ unfoldable pub first : (ℕ → Bool) → ℕ → ℕ → ℕ
 first test zero i = i
 first test (suc k) i = if test i then i else first test k (i + 1)
 
+-- how many ids below n pass the test
+unfoldable pub passing : (ℕ → Bool) → ℕ → ℕ
+passing test zero = 0
+passing test (suc k) = passing test k + (if test k then 1 else 0)
+
 -- ---- laws of `ascending`: before the first turn, one turn, the end; and turns that change nothing
 
 module _ {A : Type 0} (step : ℕ → A → A) where
@@ -99,6 +104,77 @@ unfolding first if_then_else_
 first-found test zero i h = absurd (omega arith)
 first-found test (suc k) i h =
     by-test (test i) (λ e. rw (e, e)) (λ e. rw e (first-found test k (i + 1) (omega (arith, rw e at h))))
+
+first-least : (test : ℕ → Bool) (k i j : ℕ) → i ≤ j → j < i + k → test j ≡ true → first test k i ≤ j
+unfolding first if_then_else_
+first-least test zero i j l h e = absurd (omega arith)
+first-least test (suc k) i j l h e =
+    by-test (test i)
+    (λ p. rw p l)
+    (λ p. rw p (⊎-elim (λ (q : i ≡ j). absurd (false≢true (sym p ∙ rw q e))) (λ (q : i < j). first-least test k (i + 1) j (omega arith) (omega arith) e) (eq-or-lt-of-le l)))
+
+-- ---- laws of `passing`: in a loop that counts; none passes; exactly one does, the first
+
+module _ (test : ℕ → Bool) where
+  pub passing-none : 0 ≡ passing test 0
+  unfolding passing
+  passing-none = refl
+
+  pub passing-more : (i : ℕ) {x y : ℕ} {b : Bool} → x ≡ passing test i → b ≡ test i → y ≡ x + (if b then 1 else 0) → y ≡ passing test (i + 1)
+  unfolding passing
+  passing-more i p q e = rw (add-one, ← p, ← q) e
+
+  pub passing-done : (i n : ℕ) {x : ℕ} → i ≡ n → x ≡ passing test i → x ≡ passing test n
+  passing-done i n e p = rw (← e) p
+
+  pub passing-most : (n : ℕ) → passing test n ≤ n
+  unfolding passing if_then_else_
+  passing-most zero = omega arith
+  passing-most (suc n) = by-test (test n) (λ e. rw e (omega (arith, passing-most n))) (λ e. rw e (omega (arith, passing-most n)))
+
+  pub none-passing : (n : ℕ) → passing test n ≡ 0 → (k : ℕ) → k < n → test k ≡ false
+  unfolding passing if_then_else_
+  none-passing zero e k h = absurd (omega arith)
+  none-passing (suc n) e k h =
+      let l : k ≤ n = omega arith in
+      by-test (test n)
+      (λ p. absurd (omega (arith, rw p at e)))
+      (λ p. ⊎-elim (λ q. rw q p) (λ (q : k < n). none-passing n (omega (arith, rw p at e)) k q) (eq-or-lt-of-le l))
+
+  -- one of those that pass
+  found-passing : (n : ℕ) → 0 < passing test n → (k : ℕ) × (k < n) × (test k ≡ true)
+  unfolding passing if_then_else_
+  found-passing zero h = absurd (omega arith)
+  found-passing (suc n) h =
+      by-test (test n)
+      (λ p. (n, omega arith, p))
+      (λ p. let f = found-passing n (omega (arith, rw p at h)) in (f .0, omega arith, f .2))
+
+  same-passing : (n : ℕ) → passing test n ≡ 1 → (j k : ℕ) → j < n → k < n → test j ≡ true → test k ≡ true → j ≡ k
+  unfolding passing if_then_else_
+  same-passing zero e j k hj hk tj tk = absurd (omega arith)
+  same-passing (suc n) e j k hj hk tj tk =
+      by-test (test n)
+      (λ p.
+      let last : (i : ℕ) → i < suc n → test i ≡ true → i ≡ n
+      = λ i h t. by-test (n ≤? i) (λ q. omega (arith, leb-true n i q)) (λ q. absurd (false≢true (sym (none-passing n (omega (arith, rw p at e)) i (leb-false n i q)) ∙ t))) in
+      last j hj tj ∙ sym (last k hk tk))
+      (λ p.
+      let below : (i : ℕ) → i < suc n → test i ≡ true → i < n
+      = λ i h t. by-test (n ≤? i) (λ q. let s : i ≡ n = omega (arith, leb-true n i q) in absurd (false≢true (sym p ∙ rw s at t))) (λ q. leb-false n i q) in
+      same-passing n (omega (arith, rw p at e)) j k (below j hj tj) (below k hk tk) tj tk)
+
+  pub record One (n : ℕ) : Type 0 where
+    pub below : first test n 0 < n
+    pub passes : test (first test n 0) ≡ true
+    pub only : (k : ℕ) → k < n → test k ≡ true → k ≡ first test n 0
+
+  pub one-passing : (n : ℕ) → passing test n ≡ 1 → One n
+  one-passing n e =
+      let f = found-passing n (omega arith) in
+      let below : first test n 0 < n = omega (arith, f .1, first-least test n 0 (f .0) (omega arith) (omega arith) (f .2)) in
+      let passes = first-found test n 0 (omega arith) in
+      record { below = below; passes = passes; only = λ k h t. same-passing n e k (first test n 0) h below t passes }
 
 -- ---- laws of `every` and `some`
 
@@ -169,6 +245,9 @@ some-none test = refl
 pub some-more : (test : ℕ → Bool) (n : ℕ) → some test n ≡ false → test n ≡ false → some test (n + 1) ≡ false
 unfolding some
 some-more test n p q = rw (add-one, p) q
+
+pub some-done : (test : ℕ → Bool) (i n : ℕ) → i ≡ n → some test i ≡ false → some test n ≡ false
+some-done test i n e p = rw (← e) p
 
 -- ---- what holds after each turn of a loop
 

@@ -1,15 +1,16 @@
--- Marks, one for each byte: where n is marked, some entry so far passes the test of n.
+-- Marks, one for each byte: where n is marked, some entry so far passes the test of n. And numbers: how many do.
 use mathlib.Core.Path.{_≡_, refl, sym, _∙_}
 use mathlib.Core.Bool.{Bool, false, _&&_, _||_, or-false}
 use mathlib.Core.List.{List}
-use Prim.Native.Nat.{ℕ, _+_, _<_}
+use Prim.Native.Nat.{ℕ, _+_, _<_, _≤_}
+use native.Mathlib.Nat.{add-zero}
 use native.Mathlib.Numerals.{add-one}
 use native.Mathlib.Omega.{arith}
 use borrow.Author.Tests.{eqb-true, eqb-false}
 use lib.ListN.{length, length-set, getD, set, replicate, getD-replicate}
 use lib.Seq.{getD-set-same, getD-set-other}
-use Rattle.base.specs.Tests.{_=?_, by-test}
-use Rattle.base.specs.Loops.{some}
+use Rattle.base.specs.Tests.{if_then_else_, _=?_, by-test}
+use Rattle.base.specs.Loops.{some, passing, passing-most}
 
 pub record Marked (test : ℕ → ℕ → Bool) (entries : ℕ) (marks : List Bool) : Type 0 where
   pub places : length marks ≡ 256
@@ -40,3 +41,36 @@ module _ (test : ℕ → ℕ → Bool) where
 
   pub marked-done : (i n : ℕ) (marks : List Bool) → i ≡ n → Marked test i marks → Marked test n marks
   marked-done i n marks e k = rw e at k
+
+pub record Numbered (test : ℕ → ℕ → Bool) (entries : ℕ) (numbers : List ℕ) : Type 0 where
+  pub places : length numbers ≡ 256
+  pub numbered : (n : ℕ) → n < 256 → getD numbers n 0 ≡ passing (test n) entries
+
+module _ (test : ℕ → ℕ → Bool) where
+  pub numbered-none : Numbered test 0 (replicate 256 0)
+  unfolding passing
+  numbered-none = record { places = refl; numbered = λ n h. getD-replicate 256 n 0 0 h }
+
+  -- an entry that passes the test of m alone, and only if `passes`
+  pub numbered-more : (i m : ℕ) (numbers : List ℕ) (passes : Bool) (value : ℕ) → m < 256 → ((n : ℕ) → test n i ≡ (m =? n && passes))
+      → value ≡ getD numbers m 0 + (if passes then 1 else 0) → Numbered test i numbers → Numbered test (i + 1) (set numbers m value)
+  unfolding passing if_then_else_
+  numbered-more i m numbers passes value h one e k =
+      record {
+        places = length-set numbers m value ∙ k .places;
+        numbered = λ n l.
+            rw add-one
+            (by-test (m =? n)
+            (λ q.
+            let u : n ≡ m = sym (eqb-true m n q) in
+            rw (one n, q, u) (getD-set-same numbers m value 0 (omega (arith, k .places)) ∙ e ∙ rw (k .numbered m h)))
+            (λ q.
+            rw (one n, q, add-zero)
+            (getD-set-other numbers m n value 0 (λ u. eqb-false m n q (sym u)) ∙ k .numbered n l)));
+      }
+
+  pub numbered-done : (i n : ℕ) (numbers : List ℕ) → i ≡ n → Numbered test i numbers → Numbered test n numbers
+  numbered-done i n numbers e k = rw e at k
+
+  pub numbered-most : (i : ℕ) (numbers : List ℕ) → Numbered test i numbers → (n : ℕ) → n < 256 → getD numbers n 0 ≤ i
+  numbered-most i numbers k n h = rw (k .numbered n h) (passing-most (test n) i)

@@ -14,3 +14,7 @@ pub mod Entries
 pub mod Loading
 pub mod FirstSession
 pub mod Demand
+pub mod Showing
+pub mod Values
+pub mod Latest
+pub mod Counting

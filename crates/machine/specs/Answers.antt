@@ -11,6 +11,12 @@ use Rattle.machine.specs.declared.CallAnswer
 use Rattle.machine.specs.declared.CallAnswer.{CallAnswer}
 use Rattle.machine.specs.declared.ReadAnswer
 use Rattle.machine.specs.declared.ReadAnswer.{ReadAnswer}
+use Rattle.machine.specs.declared.Condition.{Condition}
+use Rattle.machine.specs.declared.Condition.the-variants.{HasAnchor, AnchorsDisjoint, EachHasOneLink, EachSetsOnce, EachUnguarded, NoOtherAction}
+use Rattle.machine.specs.declared.CountsAnswer
+use Rattle.machine.specs.declared.CountsAnswer.{CountsAnswer}
+use Rattle.machine.specs.declared.CountAnswer
+use Rattle.machine.specs.declared.CountAnswer.{CountAnswer}
 
 -- an answer as 01 gives it: the number of its refusal, 0 if it is accepted, and the values of an accepted one
 pub record Answer : Type 0 where
@@ -51,3 +57,24 @@ callAnswer (CallAnswer.Refused r) = refused (numberOf r)
 abbrev pub readAnswer : ReadAnswer → Answer
 readAnswer (ReadAnswer.Found r) = accepted (pos (r .state) ∷ r .value ∷ pos (r .count) ∷ [])
 readAnswer (ReadAnswer.Refused r) = refused (numberOf r)
+
+-- the conditions under which a document shows counts, by their numbers in `Counts`
+abbrev pub conditionNumber : Condition → ℕ
+conditionNumber HasAnchor = 1
+conditionNumber AnchorsDisjoint = 2
+conditionNumber EachHasOneLink = 3
+conditionNumber EachSetsOnce = 4
+conditionNumber EachUnguarded = 5
+conditionNumber NoOtherAction = 6
+
+-- "the first condition that fails, or that the document shows the counts": the condition's number, or 0
+abbrev pub countsAnswer : CountsAnswer → Answer
+countsAnswer CountsAnswer.Shown = accepted (pos 0 ∷ [])
+countsAnswer (CountsAnswer.Fails c) = accepted (pos (conditionNumber c) ∷ [])
+countsAnswer (CountsAnswer.Refused r) = refused (numberOf r)
+
+-- the same, and the count or 0
+abbrev pub countAnswer : CountAnswer → Answer
+countAnswer (CountAnswer.Count count) = accepted (pos 0 ∷ count ∷ [])
+countAnswer (CountAnswer.Fails c) = accepted (pos (conditionNumber c) ∷ pos 0 ∷ [])
+countAnswer (CountAnswer.Refused r) = refused (numberOf r)

@@ -17,15 +17,15 @@ use Rattle.machine.specs.declared.Session.{Session}
 
 -- ---- bytes, written in hexadecimal with blanks between them
 
-digit : ℕ → ℕ
+unfoldable pub digit : ℕ → ℕ
 digit c = if c <? 65 then c - 48 else c - 55
 
-pairs : List ℕ → List ℕ
+unfoldable pub pairs : List ℕ → List ℕ
 pairs [] = []
 pairs (c ∷ []) = []
 pairs (c ∷ e ∷ cs) = if c =? 32 then pairs (e ∷ cs) else (16 * digit c + digit e) ∷ pairs cs
 
-bytes : String → List ℕ
+unfoldable pub bytes : String → List ℕ
 bytes hex = pairs (text hex)
 
 -- ---- what an example shows: the printed lines of its calls, and what read then answers
@@ -61,10 +61,10 @@ program : List ℕ → List ℕ → Shown
 program document script = record { printed = printedRun document script; reads = [] }
 
 -- a call with 256 bytes of log
-whole : Call → Call × ℕ
+unfoldable pub whole : Call → Call × ℕ
 whole c = (c, 256)
 
-on : ℕ → ℕ → Call × ℕ
+unfoldable pub on : ℕ → ℕ → Call × ℕ
 on action target = whole (command action target (pos 0))
 
 -- ---- the documents

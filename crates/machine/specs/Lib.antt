@@ -13,7 +13,9 @@ pub mod Broken
 pub mod Sound
 pub mod Operations
 pub mod Demand3
+pub mod Counts
 pub mod Text
 pub mod PrintedRun
 pub mod Computing
 pub mod Examples
+pub mod CountExamples

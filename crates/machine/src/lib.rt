@@ -210,3 +210,27 @@ pub enum ReadAnswer {
     Found(Reading),
     Refused(Refusal),
 }
+
+// The conditions under which a document shows the counts of a media in a property, in the order of their numbers, 1 to 6.
+pub enum Condition {
+    HasAnchor,
+    AnchorsDisjoint,
+    EachHasOneLink,
+    EachSetsOnce,
+    EachUnguarded,
+    NoOtherAction,
+}
+
+// Whether a document shows the counts, or the first condition that fails.
+pub enum CountsAnswer {
+    Shown,
+    Fails(Condition),
+    Refused(Refusal),
+}
+
+// The count of an anchor whose media's counts a document shows, or the first condition that fails.
+pub enum CountAnswer {
+    Count(i32),
+    Fails(Condition),
+    Refused(Refusal),
+}

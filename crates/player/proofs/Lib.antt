@@ -1,2 +1,3 @@
 mod Ends
+mod Conditions
 pub mod JoinedProof

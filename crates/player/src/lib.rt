@@ -1,7 +1,10 @@
 // The report player: the crate to link. Any session, any arguments and a log slice of any length may be handed in.
+use counts::Check;
 use events::Work;
 use machine::CallAnswer;
 use machine::Called;
+use machine::CountAnswer;
+use machine::CountsAnswer;
 use machine::Loaded;
 use machine::ReadAnswer;
 use machine::Reading;
@@ -9,11 +12,14 @@ use machine::Refusal;
 use machine::Session;
 use machine::State;
 ghost use mathlib.Core.Path.{_≡_};
+ghost use mathlib.Core.Bool.{_&&_};
 ghost use lib.ListN.{length};
-ghost use Rattle.machine.specs.Answers.{numberOf, readAnswer};
+ghost use Rattle.base.specs.Tests.{_<?_};
+ghost use Rattle.machine.specs.Answers.{numberOf, readAnswer, countsAnswer, countAnswer};
 ghost use Rattle.machine.specs.Load.{load};
 ghost use Rattle.machine.specs.Chain.{chained};
 ghost use Rattle.machine.specs.Operations.{Call, callRefused, ended, call, readState, isRead, read};
+ghost use Rattle.machine.specs.Counts.{checkCounts, giveCount};
 ghost use Rattle.machine.specs.Sound.{Sound};
 ghost use Rattle.document.specs.Loading.{loadResult};
 ghost use Rattle.events.specs.Running.{on};
@@ -160,4 +166,52 @@ pub fn read(s: Session, class: u8, id: u8) -> ReadAnswer
         return found(state.anchor_state[i], 0, state.anchor_count[i]);
     }
     found(0, state.property_value[i], state.property_count[i])
+}
+
+// ---- the check for report authors
+
+// An id and a property, each among so many.
+fn both_given(id: u8, count: usize, property: u8, properties: usize) -> bool
+    ensures { λ r. ⌜ r ≡ id <? count && property <? properties ⌝ }
+{
+    ((id as usize) < count) & ((property as usize) < properties)
+}
+
+pub fn check_counts(s: Session, media: u8, property: u8) -> CountsAnswer
+    ensures { λ r. ⌜ countsAnswer r ≡ checkCounts s media property ⌝ }
+{
+    if session_check::is_broken(s) {
+        return CountsAnswer::Refused(Refusal::BrokenSession);
+    }
+    let d = s.document;
+    let nodes = d.nodes;
+    if !both_given(media, nodes.count, property, d.properties) {
+        return CountsAnswer::Refused(Refusal::NoSuchId);
+    }
+    if nodes.types[media as usize] != 1 {
+        return CountsAnswer::Refused(Refusal::NoSuchId);
+    }
+    let check = counts::first_failing(d, media, property);
+    match check {
+        Check::Passed => CountsAnswer::Shown,
+        Check::Failed(condition) => CountsAnswer::Fails(condition),
+    }
+}
+
+pub fn count_of(s: Session, anchor: u8, property: u8) -> CountAnswer
+    ensures { λ r. ⌜ countAnswer r ≡ giveCount s anchor property ⌝ }
+{
+    if session_check::is_broken(s) {
+        return CountAnswer::Refused(Refusal::BrokenSession);
+    }
+    let d = s.document;
+    let anchors = d.anchors;
+    if !both_given(anchor, anchors.count, property, d.properties) {
+        return CountAnswer::Refused(Refusal::NoSuchId);
+    }
+    let check = counts::first_failing(d, anchors.media[anchor as usize], property);
+    match check {
+        Check::Passed => CountAnswer::Count(counts::count_of(d, property, anchor)),
+        Check::Failed(condition) => CountAnswer::Fails(condition),
+    }
 }

@@ -8,6 +8,8 @@ use Rattle.machine.specs.Load.{LoadResult}
 use Rattle.machine.specs.Operations.{CallResult}
 use Rattle.probe.specs.declared.ReturnedSession.{ReturnedSession}
 use Rattle.probe.specs.declared.ReturnedReading.{ReturnedReading}
+use Rattle.probe.specs.declared.ReturnedCheck.{ReturnedCheck}
+use Rattle.probe.specs.declared.ReturnedCount.{ReturnedCount}
 
 abbrev pub answerOf : Bool → ℕ → List ℤ → Answer
 answerOf true refusal values = accepted values
@@ -22,3 +24,9 @@ callIn r bytes = record { answer = answerOf (r .accepted) (r .refusal) (pos (r .
 
 abbrev pub readIn : ReturnedReading → Answer
 readIn r = answerOf (r .accepted) (r .refusal) (pos (r .state) ∷ r .value ∷ pos (r .count) ∷ [])
+
+abbrev pub checkIn : ReturnedCheck → Answer
+checkIn r = answerOf (r .accepted) (r .refusal) (pos (r .condition) ∷ [])
+
+abbrev pub countIn : ReturnedCount → Answer
+countIn r = answerOf (r .accepted) (r .refusal) (pos (r .condition) ∷ r .count ∷ [])

@@ -1,6 +1,8 @@
 // The player's operations for tests and measurements from another language: sessions go in and come back as C lays them out, so that any session can be handed over.
 use machine::CallAnswer;
 use machine::Called;
+use machine::CountAnswer;
+use machine::CountsAnswer;
 use machine::LoadAnswer;
 use machine::Loaded;
 use machine::ReadAnswer;
@@ -10,12 +12,13 @@ ghost use mathlib.Core.List.{List};
 ghost use mathlib.Core.Path.{_≡_};
 ghost use Prim.Native.Nat.{ℕ};
 ghost use lib.ListN.{length};
-ghost use Rattle.machine.specs.Answers.{readAnswer};
+ghost use Rattle.machine.specs.Answers.{readAnswer, countsAnswer, countAnswer};
 ghost use Rattle.machine.specs.Load.{load};
 ghost use Rattle.machine.specs.Operations.{Call, call, read};
+ghost use Rattle.machine.specs.Counts.{checkCounts, giveCount};
 ghost use Rattle.document.specs.Loading.{loadResult};
 ghost use Rattle.player.specs.Promises.{callResult};
-ghost use Rattle.probe.specs.Returning.{loadIn, callIn, readIn};
+ghost use Rattle.probe.specs.Returning.{loadIn, callIn, readIn, checkIn, countIn};
 
 // What a load or a call returned: the number of its refusal, or that it was accepted, with the firings of a call.
 #[repr(C)]
@@ -34,6 +37,23 @@ pub struct ReturnedReading {
     pub state: u8,
     pub value: i32,
     pub count: u32,
+}
+
+// What a check of counts returned: the number of the first condition that fails, 0 if none does.
+#[repr(C)]
+pub struct ReturnedCheck {
+    pub accepted: bool,
+    pub refusal: u8,
+    pub condition: u8,
+}
+
+// What was returned for an anchor's count.
+#[repr(C)]
+pub struct ReturnedCount {
+    pub accepted: bool,
+    pub refusal: u8,
+    pub condition: u8,
+    pub count: i32,
 }
 
 fn returned_load(loaded: Loaded) -> ReturnedSession
@@ -99,6 +119,53 @@ fn returned_read(answer: ReadAnswer) -> ReturnedReading
     }
 }
 
+fn returned_check(answer: CountsAnswer) -> ReturnedCheck
+    ensures { λ r. ⌜ checkIn r ≡ countsAnswer answer ⌝ }
+{
+    match answer {
+        CountsAnswer::Shown => ReturnedCheck {
+            accepted: true,
+            refusal: 0,
+            condition: 0,
+        },
+        CountsAnswer::Fails(condition) => ReturnedCheck {
+            accepted: true,
+            refusal: 0,
+            condition: counts::number_of(condition),
+        },
+        CountsAnswer::Refused(refusal) => ReturnedCheck {
+            accepted: false,
+            refusal: number_of(refusal),
+            condition: 0,
+        },
+    }
+}
+
+fn returned_count(answer: CountAnswer) -> ReturnedCount
+    ensures { λ r. ⌜ countIn r ≡ countAnswer answer ⌝ }
+{
+    match answer {
+        CountAnswer::Count(count) => ReturnedCount {
+            accepted: true,
+            refusal: 0,
+            condition: 0,
+            count,
+        },
+        CountAnswer::Fails(condition) => ReturnedCount {
+            accepted: true,
+            refusal: 0,
+            condition: counts::number_of(condition),
+            count: 0,
+        },
+        CountAnswer::Refused(refusal) => ReturnedCount {
+            accepted: false,
+            refusal: number_of(refusal),
+            condition: 0,
+            count: 0,
+        },
+    }
+}
+
 #[no_mangle]
 pub extern "C" fn probe_load(document: &[u8]) -> ReturnedSession
     ensures { λ r. ⌜ loadIn r ≡ load (now (document .entry)) ⌝ }
@@ -138,4 +205,18 @@ pub extern "C" fn probe_read(s: Session, class: u8, id: u8) -> ReturnedReading
     ensures { λ r. ⌜ readIn r ≡ read s class id ⌝ }
 {
     returned_read(player::read(s, class, id))
+}
+
+#[no_mangle]
+pub extern "C" fn probe_check_counts(s: Session, media: u8, property: u8) -> ReturnedCheck
+    ensures { λ r. ⌜ checkIn r ≡ checkCounts s media property ⌝ }
+{
+    returned_check(player::check_counts(s, media, property))
+}
+
+#[no_mangle]
+pub extern "C" fn probe_count_of(s: Session, anchor: u8, property: u8) -> ReturnedCount
+    ensures { λ r. ⌜ countIn r ≡ giveCount s anchor property ⌝ }
+{
+    returned_count(player::count_of(s, anchor, property))
 }

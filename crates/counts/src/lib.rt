@@ -1,0 +1,100 @@
+// The check for report authors: whether a document shows the counts of a media in a property, and the count of an anchor.
+mod anchors;
+mod links;
+
+use machine::Condition;
+use machine::Document;
+ghost use mathlib.Core.Path.{_≡_};
+ghost use mathlib.Core.Bool.{true};
+ghost use mathlib.Core.List.{[], _∷_};
+ghost use Prim.Native.Nat.{_<_};
+ghost use Rattle.machine.specs.Answers.{conditionNumber};
+ghost use Rattle.machine.specs.Tables.{anchorAt};
+ghost use Rattle.machine.specs.Counts.{firstFailing, failing, showsCounts, countOf};
+ghost use Rattle.machine.specs.Sound.{Sound};
+ghost use Rattle.counts.specs.Checks.{checkNumber};
+
+pub enum Check {
+    Passed,
+    Failed(Condition),
+}
+
+// The first of the conditions that fails.
+fn first_of(
+    has_anchor: bool,
+    disjoint: bool,
+    each_has_one_link: bool,
+    each_sets_once: bool,
+    each_unguarded: bool,
+    no_other: bool,
+) -> Check
+    ensures { λ c. ⌜ checkNumber c ≡ firstFailing 1 («has_anchor» ∷ disjoint ∷ «each_has_one_link» ∷ «each_sets_once» ∷ «each_unguarded» ∷ «no_other» ∷ []) ⌝ }
+{
+    if !has_anchor {
+        return Check::Failed(Condition::HasAnchor);
+    }
+    if !disjoint {
+        return Check::Failed(Condition::AnchorsDisjoint);
+    }
+    if !each_has_one_link {
+        return Check::Failed(Condition::EachHasOneLink);
+    }
+    if !each_sets_once {
+        return Check::Failed(Condition::EachSetsOnce);
+    }
+    if !each_unguarded {
+        return Check::Failed(Condition::EachUnguarded);
+    }
+    if !no_other {
+        return Check::Failed(Condition::NoOtherAction);
+    }
+    Check::Passed
+}
+
+// The first condition that fails for a media and a property.
+pub fn first_failing(d: Document, media: u8, property: u8) -> Check
+    requires { ⌜ Sound d ⌝ }
+    ensures { λ c. ⌜ checkNumber c ≡ failing d media property ⌝ }
+{
+    let has_anchor = anchors::has_anchor(d.anchors, media);
+    let disjoint = anchors::disjoint(d.anchors, media);
+    let found = links::sweep(d, media, property);
+    let linked = found.linked;
+    let each_has_one_link = anchors::each_has_one_link(d.anchors, media, linked);
+    first_of(
+        has_anchor,
+        disjoint,
+        each_has_one_link,
+        found.each_sets_once,
+        found.each_unguarded,
+        found.no_other,
+    )
+}
+
+// The count of an anchor whose media's counts the document shows.
+pub fn count_of(d: Document, property: u8, anchor: u8) -> i32
+    requires { ⌜ Sound d × (anchor < d .anchors .count) × (showsCounts d (anchorAt (d .anchors) anchor .media) property ≡ true) ⌝ }
+    ensures { λ r. ⌜ r ≡ countOf d property anchor ⌝ }
+{
+    let l = links::count_link(d, property, anchor);
+    let links = d.links;
+    let actions = d.actions;
+    let kinds = actions.actions;
+    let targets = actions.targets;
+    let j = links::count_action(&kinds, &targets, l, links.action_counts[l], property);
+    actions.values[8 * l + j]
+}
+
+// The number of a condition.
+pub fn number_of(condition: Condition) -> u8
+    ensures { λ r. ⌜ r ≡ conditionNumber condition ⌝ }
+{
+    match condition {
+        Condition::HasAnchor => 1,
+        Condition::AnchorsDisjoint => 2,
+        Condition::EachHasOneLink => 3,
+        Condition::EachSetsOnce => 4,
+        Condition::EachUnguarded => 5,
+        Condition::NoOtherAction => 6,
+    }
+}

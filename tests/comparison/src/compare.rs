@@ -1,5 +1,6 @@
 //! One operation on both engines, and the first difference in what they give back.
 
+use second_engine::counts::{CheckAnswer, CountAnswer};
 use second_engine::refusal::Refusal;
 use second_engine::{load, Call, Probe, Session, WrittenSession};
 
@@ -8,6 +9,11 @@ use crate::player::{self, Answer};
 
 /// What differs, in words.
 pub type Difference = String;
+
+/// Ends the test with the difference, if there is one.
+pub fn equal<T>(compared: Result<T, Difference>) -> T {
+    compared.unwrap_or_else(|difference| panic!("{difference}"))
+}
 
 /// Bytes that no call writes, so that a slice left as it was is seen.
 pub fn untouched_log(length: usize) -> Vec<u8> {
@@ -76,6 +82,28 @@ impl Both {
         same_answer(self.player.read(class, id), numbered(reading))?;
         Ok(second.map(|_| ()))
     }
+
+    /// A check of counts and the count of an anchor.
+    pub fn counts(&self, ids: [u8; 3]) -> Result<(CheckAnswer, CountAnswer), Difference> {
+        let [media, anchor, property] = ids;
+        let second = &self.second;
+        let answers = (second.check_counts(media, property), second.count_of(anchor, property));
+        same_counts(&self.player, answers, ids)
+    }
+}
+
+/// The second engine's answers about a media, an anchor and a property, if the player's are the
+/// same.
+fn same_counts(
+    player: &player::Session,
+    second: (CheckAnswer, CountAnswer),
+    [media, anchor, property]: [u8; 3],
+) -> Result<(CheckAnswer, CountAnswer), Difference> {
+    let returned = (player.check_counts(media, property), player.count_of(anchor, property));
+    same_answer(returned, (second.0.into(), second.1.into())).map_err(|difference| {
+        format!("media {media}, anchor {anchor}, property {property}: {difference}")
+    })?;
+    Ok(second)
 }
 
 /// A call on a session that somebody wrote down, whole or broken; the session that comes back.
@@ -108,4 +136,15 @@ pub fn read_of_written(
         .map(|found| (found.state as u8, found.value, found.count));
     same_answer(player.read(class, id), second)?;
     Ok(second.map(|_| ()))
+}
+
+/// A check of counts and the count of an anchor on a session that somebody wrote down.
+pub fn counts_of_written(
+    player: &player::Session,
+    written: &WrittenSession,
+    ids: [u8; 3],
+) -> Result<(CheckAnswer, CountAnswer), Difference> {
+    let [media, anchor, property] = ids;
+    let answers = (written.check_counts(media, property), written.count_of(anchor, property));
+    same_counts(player, answers, ids)
 }

@@ -3,11 +3,12 @@
 
 use std::mem::MaybeUninit;
 
+use second_engine::counts::{number_or_0, CheckAnswer, CountAnswer};
 use second_engine::document::{
     MOST_ACTIONS, MOST_ANCHORS, MOST_BINDS, MOST_LINKS, MOST_NODES, MOST_PORTS, MOST_PROPERTIES,
     MOST_RULES,
 };
-use second_engine::Call;
+use second_engine::{Call, Refusal};
 
 use crate::flat::{Empty, Fields, Walk};
 
@@ -130,6 +131,41 @@ struct ReturnedReading {
     count: u32,
 }
 
+/// The number of the first condition that fails, 0 for none. Fields that are not meant are 0.
+#[repr(C)]
+#[derive(Debug, Clone, Copy, PartialEq, Eq)]
+pub struct ReturnedCheck {
+    pub accepted: bool,
+    pub refusal: u8,
+    pub condition: u8,
+}
+
+/// The same for an anchor's media, and the anchor's count if none fails.
+#[repr(C)]
+#[derive(Debug, Clone, Copy, PartialEq, Eq)]
+pub struct ReturnedCount {
+    pub accepted: bool,
+    pub refusal: u8,
+    pub condition: u8,
+    pub count: i32,
+}
+
+impl From<CheckAnswer> for ReturnedCheck {
+    fn from(answer: CheckAnswer) -> Self {
+        let (accepted, refusal) = (answer.is_ok(), answer.err().map_or(0, Refusal::number));
+        ReturnedCheck { accepted, refusal, condition: answer.map_or(0, number_or_0) }
+    }
+}
+
+impl From<CountAnswer> for ReturnedCount {
+    fn from(answer: CountAnswer) -> Self {
+        let count = answer.ok().and_then(Result::ok).unwrap_or(0);
+        let check = ReturnedCheck::from(answer.map(|count| count.map(|_| ())));
+        let ReturnedCheck { accepted, refusal, condition } = check;
+        ReturnedCount { accepted, refusal, condition, count }
+    }
+}
+
 extern "C" {
     fn probe_load(document: *const u8, length: usize) -> ReturnedSession;
     fn probe_command(
@@ -143,6 +179,8 @@ extern "C" {
     fn probe_key(session: Session, code: u8, log: *mut u8, length: usize) -> ReturnedSession;
     fn probe_tick(session: Session, log: *mut u8, length: usize) -> ReturnedSession;
     fn probe_read(session: Session, class: u8, id: u8) -> ReturnedReading;
+    fn probe_check_counts(session: Session, media: u8, property: u8) -> ReturnedCheck;
+    fn probe_count_of(session: Session, anchor: u8, property: u8) -> ReturnedCount;
 }
 
 /// The firings of an accepted call, or the number of the refusal.
@@ -190,6 +228,16 @@ impl Session {
         };
         *self = returned.session;
         returned.answer()
+    }
+
+    pub fn check_counts(&self, media: u8, property: u8) -> ReturnedCheck {
+        // Safety: takes numbers alone.
+        unsafe { probe_check_counts(*self, media, property) }
+    }
+
+    pub fn count_of(&self, anchor: u8, property: u8) -> ReturnedCount {
+        // Safety: takes numbers alone.
+        unsafe { probe_count_of(*self, anchor, property) }
     }
 
     pub fn read(&self, class: u8, id: u8) -> Result<Reading, u8> {

@@ -1,11 +1,13 @@
 //! Generated runs with fixed seeds, each told so that it can be run again.
 
+use second_engine::count_reports::CountReport;
+use second_engine::counts::{CheckAnswer, CountAnswer};
 use second_engine::coverage::Coverage;
 use second_engine::generate::{self, Generated};
 use second_engine::random::Random;
 use second_engine::{Call, Fault, Probe, WrittenSession};
 
-use crate::compare::{call_on_written, hex, read_of_written, Both, Difference};
+use crate::compare::{call_on_written, counts_of_written, hex, read_of_written, Both, Difference};
 use crate::flat::{bytes_of, session_of, SESSION_SIZE};
 
 /// How many times as many runs as usual: the variable COMPARISON_RUNS.
@@ -22,6 +24,8 @@ pub struct Count {
     pub calls: usize,
     pub accepted: usize,
     pub reads: usize,
+    /// Checks of counts, with as many anchors' counts.
+    pub count_checks: usize,
     pub broken: usize,
 }
 
@@ -53,8 +57,8 @@ impl Told {
     }
 }
 
-/// A document, a list of calls and reads between them; with a fault planted in the second engine,
-/// a difference is to be expected.
+/// A document, a list of calls, and reads and operations on counts between them; with a fault
+/// planted in the second engine, a difference is to be expected.
 pub fn run(
     seed: u64,
     fault: Option<Fault>,
@@ -95,8 +99,70 @@ fn run_document(
             coverage.meet_read(class, both.read(class, id)?);
             count.reads += 1;
         }
+        coverage.meet_counts(both.counts(count_ids(random))?);
+        count.count_checks += 1;
     }
     Ok(())
+}
+
+/// A media, an anchor and a property, each at times out of its table.
+fn count_ids(random: &mut Random) -> [u8; 3] {
+    let property = match random.one_in(4) {
+        true => random.likely_byte(),
+        false => random.below(4) as u8,
+    };
+    [random.likely_byte(), random.likely_byte(), property]
+}
+
+/// A report that shows counts, or a changed one: both operations on every media, anchor and
+/// property, then a list of calls with both between them, and on the last session changed by
+/// somebody.
+pub fn run_report(seed: u64, count: &mut Count, coverage: &mut Coverage) -> Result<(), Difference> {
+    let mut random = Random::new(seed);
+    let mut report = CountReport::new(&mut random);
+    if random.one_in(2) {
+        report.change_some(&mut random);
+    }
+    let mut told = Told { seed, document: report.bytes(), ..Told::default() };
+    let last = run_calls_of_report(&mut random, &report, &mut told, count, coverage)
+        .map_err(|difference| told.with(difference))?;
+    let empty = bytes_of(&WrittenSession::empty());
+    let session = changed(&mut random, &last, &empty);
+    run_written(&mut random, seed, session, 1, count, coverage)
+}
+
+/// The session after the calls.
+fn run_calls_of_report(
+    random: &mut Random,
+    report: &CountReport,
+    told: &mut Told,
+    count: &mut Count,
+    coverage: &mut Coverage,
+) -> Result<Vec<u8>, Difference> {
+    count.documents += 1;
+    let mut both = Both::load(&told.document)?.expect("a report loads");
+    count.loaded += 1;
+    // Every media, anchor and property, ids one past the tables, and 255.
+    let document = both.second.document();
+    let ids = |length: usize| (0..=length as u8).chain([255]);
+    for property in ids(document.first_values.len()) {
+        for id in ids(document.nodes.len().max(document.anchors.len())) {
+            coverage.meet_counts(both.counts([id, id, property])?);
+            count.count_checks += 1;
+        }
+    }
+    for call in report.calls(random, 20) {
+        let log_length = generate::log_length(random);
+        told.calls.push((call, log_length));
+        let (answer, _) = both.call(call, log_length, &mut Probe::default())?;
+        count.calls += 1;
+        count.accepted += usize::from(answer.is_ok());
+        coverage.meet_counts(both.counts(count_ids(random))?);
+        let (anchor, _) = random.pick(&report.counts);
+        coverage.meet_counts(both.counts([report.media, anchor, report.property])?);
+        count.count_checks += 2;
+    }
+    Ok(bytes_of(&both.player))
 }
 
 /// The sessions of a generated document before each of its calls, with the call that comes next.
@@ -115,20 +181,23 @@ pub fn sessions(seed: u64, most: usize) -> Vec<(Vec<u8>, Call)> {
         sessions.push((bytes_of(&both.player), call));
         told.calls.push((call, 4_096));
         let called = both.call(call, 4_096, &mut Probe::default());
-        if let Err(difference) = called {
+        let compared = called.and_then(|_| both.counts(count_ids(&mut random)));
+        if let Err(difference) = compared {
             panic!("{}", told.with(difference));
         }
     }
     sessions
 }
 
-/// Calls and reads on the session as written down by somebody, whole or broken.
+/// Calls, reads and operations on counts on the session as written down by somebody, whole or
+/// broken.
 pub fn run_written(
     random: &mut Random,
     seed: u64,
     session: Vec<u8>,
     calls: usize,
     count: &mut Count,
+    coverage: &mut Coverage,
 ) -> Result<(), Difference> {
     let mut told = Told { seed, session: Some(session.clone()), ..Told::default() };
     let mut bytes = session;
@@ -139,6 +208,9 @@ pub fn run_written(
         let reading = reading.map_err(|difference| told.with(difference))?;
         count.reads += 1;
         count.broken += usize::from(reading == Err(13));
+        let counts = compare_counts_of_written(random, &bytes);
+        coverage.meet_counts(counts.map_err(|difference| told.with(difference))?);
+        count.count_checks += 1;
         let call =
             generate::call(random, written.node_count.min(64), written.property_count.min(32));
         let log_length = generate::log_length(random).min(4_096);
@@ -150,6 +222,14 @@ pub fn run_written(
         bytes = after;
     }
     Ok(())
+}
+
+/// A check of counts and the count of an anchor on the session as written down by somebody.
+pub fn compare_counts_of_written(
+    random: &mut Random,
+    bytes: &[u8],
+) -> Result<(CheckAnswer, CountAnswer), Difference> {
+    counts_of_written(&session_of(bytes), &session_of(bytes), count_ids(random))
 }
 
 /// A session changed in some way: its fields, its bytes, or parts of it from another session.

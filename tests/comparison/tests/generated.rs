@@ -2,19 +2,16 @@
 
 use std::cmp::Reverse;
 
-use comparison::compare::{call_on_written, read_of_written, Both};
+use comparison::compare::{call_on_written, equal, read_of_written, Both};
 use comparison::flat::{bytes_of, session_of, SESSION_SIZE};
 use comparison::player::Session;
-use comparison::runs::{changed, run, run_written, sessions, times, Count, Told};
+use comparison::runs::{
+    changed, compare_counts_of_written, run, run_written, sessions, times, Count, Told,
+};
 use second_engine::coverage::{Coverage, Feature};
 use second_engine::generate;
 use second_engine::random::Random;
 use second_engine::{Call, Fault, WrittenSession};
-
-/// Ends the test with the difference, if there is one.
-fn equal<T>(compared: Result<T, String>) -> T {
-    compared.unwrap_or_else(|difference| panic!("{difference}"))
-}
 
 #[test]
 fn bytes_and_sessions_are_one_to_one() {
@@ -59,7 +56,7 @@ fn documents_and_calls() {
 
 #[test]
 fn written_sessions() {
-    let mut count = Count::default();
+    let (mut count, mut coverage) = (Count::default(), Coverage::new());
     let mut other = bytes_of(&WrittenSession::empty());
     for seed in 0..1_500 * times() {
         let mut random = Random::new(2_000_000 + seed);
@@ -67,7 +64,7 @@ fn written_sessions() {
         for (session, _) in &found {
             if random.one_in(2) {
                 let changed = changed(&mut random, session, &other);
-                equal(run_written(&mut random, seed, changed, 3, &mut count));
+                equal(run_written(&mut random, seed, changed, 3, &mut count, &mut coverage));
             }
         }
         if let Some((session, _)) = found.last() {
@@ -89,10 +86,12 @@ fn written_sessions() {
                 },
             );
         let session = session.collect();
-        equal(run_written(&mut random, seed, session, 1, &mut count));
+        equal(run_written(&mut random, seed, session, 1, &mut count, &mut coverage));
     }
     println!("written sessions: {count:?}");
     assert!(count.broken > 1_000 && count.accepted > 1_000);
+    assert!(coverage.number(Feature::CountsCheckRefused { refusal: 13 }) > 1_000);
+    assert!(coverage.number(Feature::CountRefused { refusal: 13 }) > 1_000);
 }
 
 fn awake_events(session: &WrittenSession) -> usize {
@@ -136,6 +135,10 @@ fn every_byte_of_a_session_changed() {
                 count.calls += 1;
                 count.accepted += usize::from(answer.is_ok());
                 count.broken += usize::from(answer == Err(13));
+                let mut random = Random::new(place as u64);
+                let compared = compare_counts_of_written(&mut random, &bytes);
+                let _ = equal(compared.map_err(|difference| told.with(difference)));
+                count.count_checks += 1;
             }
         }
     }
@@ -145,6 +148,7 @@ fn every_byte_of_a_session_changed() {
 #[test]
 fn counts_of_any_size() {
     let mut count = Count::default();
+    let mut random = Random::new(0);
     for (seed, session, call) in rich_sessions().into_iter().take(5) {
         for number in [0, 1, 31, 32, 33, 63, 64, 65, 127, 128, 129, 255, 256, 1 << 16, 1 << 32]
             .into_iter()
@@ -169,6 +173,9 @@ fn counts_of_any_size() {
                 let (answer, _) = equal(called.map_err(|difference| told.with(difference)));
                 count.calls += 1;
                 count.broken += usize::from(answer == Err(13));
+                let compared = compare_counts_of_written(&mut random, &bytes);
+                let _ = equal(compared.map_err(|difference| told.with(difference)));
+                count.count_checks += 1;
             }
             written.limit = number as u8;
             let (answer, _) = equal(call_on_written(&bytes_of(&written), call, 1_024));
@@ -226,7 +233,7 @@ fn reads_of_every_class_and_id() {
 // is found.
 #[test]
 fn planted_faults_are_found() {
-    for fault in Fault::ALL {
+    for fault in Fault::TRAPS {
         let found = (0..1_000).filter(|&seed| {
             let (mut count, mut coverage) = (Count::default(), Coverage::new());
             run(seed, Some(fault), &mut count, &mut coverage).is_err()

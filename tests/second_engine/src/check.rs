@@ -1,8 +1,10 @@
-//! The statements that hold after every list of calls from a new session (demand 3), decided
-//! from the bytes of the log slices and the session as written down, and from nothing else.
+//! The statements that hold after every list of calls from a new session (demand 3, and those on
+//! shown counts), decided from the bytes of the log slices and the session as written down, and
+//! from nothing else.
 
-use std::collections::HashMap;
+use std::collections::{BTreeMap, HashMap};
 
+use crate::printed::lines_of;
 use crate::written::WrittenSession;
 
 const SLEEPING: u8 = 0;
@@ -121,4 +123,97 @@ pub fn check_anchors(session: &WrittenSession) -> Result<(), String> {
         }
     }
     Ok(())
+}
+
+/// The statements about a document that shows the counts of a media in a property, with what they
+/// need of the joined logs. Whether the document shows them is not looked at.
+#[derive(Clone)]
+pub struct ShownCounts {
+    media: u8,
+    property: u8,
+    /// The media's anchors, each with the value to which the links on its start set the property
+    /// first, if they do.
+    counts: BTreeMap<u8, Option<i32>>,
+    first_value: i32,
+    /// The last anchor of the media whose start is in the joined logs.
+    pub last_start: Option<u8>,
+}
+
+impl ShownCounts {
+    /// Begins with the new session and reads the counts from its links.
+    pub fn new(session: &WrittenSession, media: u8, property: u8) -> Self {
+        let anchors = (0..).zip(&session.anchors[..session.anchor_count]);
+        let of_media = anchors.filter(|(_, anchor)| anchor.media == media);
+        ShownCounts {
+            media,
+            property,
+            counts: of_media.map(|(id, _)| (id, first_value_set(session, id, property))).collect(),
+            first_value: session.properties[usize::from(property)].value,
+            last_start: None,
+        }
+    }
+
+    /// Joins the log of an accepted call.
+    pub fn join(&mut self, slice: &[u8]) {
+        for [class, id, transition, _] in lines_of(slice) {
+            if (class, transition) == (2, 1) && self.counts.contains_key(&id) {
+                self.last_start = Some(id);
+            }
+        }
+    }
+
+    /// The anchors of the media with begin ≤ clock < end, if it is awake.
+    pub fn anchors_at_clock(&self, session: &WrittenSession) -> Vec<u8> {
+        let media = &session.nodes[usize::from(self.media)];
+        let is_at_clock = |id: &u8| {
+            let anchor = &session.anchors[usize::from(*id)];
+            media.state != SLEEPING && (anchor.begin..anchor.end).contains(&media.clock)
+        };
+        self.counts.keys().copied().filter(is_at_clock).collect()
+    }
+
+    /// Looks at both statements about the session after the calls joined so far.
+    pub fn check(&self, session: &WrittenSession) -> Result<(), String> {
+        self.check_last_start(session)?;
+        self.check_clock(session)
+    }
+
+    /// The property has the count of the last anchor of the media whose start is in the joined logs,
+    /// and without such a line its first value.
+    pub fn check_last_start(&self, session: &WrittenSession) -> Result<(), String> {
+        let expected =
+            self.last_start.map_or(Some(self.first_value), |anchor| self.counts[&anchor]);
+        let value = self.value(session);
+        if Some(value) != expected {
+            return Err(format!("value {value} after the start of {:?}", self.last_start));
+        }
+        Ok(())
+    }
+
+    /// If the media is awake and begin ≤ clock < end for an anchor of it, the property has that
+    /// anchor's count.
+    pub fn check_clock(&self, session: &WrittenSession) -> Result<(), String> {
+        let value = self.value(session);
+        for anchor in self.anchors_at_clock(session) {
+            if Some(value) != self.counts[&anchor] {
+                return Err(format!("value {value} at a clock of anchor {anchor}"));
+            }
+        }
+        Ok(())
+    }
+
+    fn value(&self, session: &WrittenSession) -> i32 {
+        session.properties[usize::from(self.property)].value
+    }
+}
+
+/// The first value to which the links on the anchor's start set the property, in the order of the
+/// links and their actions.
+fn first_value_set(session: &WrittenSession, anchor: u8, property: u8) -> Option<i32> {
+    let links = session.links[..session.link_count].iter();
+    let on_start =
+        links.filter(|link| (link.class, link.subject, link.transition) == (2, anchor, 1));
+    let mut actions = on_start.flat_map(|link| &link.actions[..link.action_count]);
+    let sets = actions.find(|action| (action.action, action.target) == (6, property));
+    sets.map(|action| action.value)
 }

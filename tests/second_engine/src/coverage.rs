@@ -3,6 +3,7 @@
 use std::collections::BTreeMap;
 
 use crate::call::Call;
+use crate::counts::{number_or_0, CheckAnswer, CountAnswer};
 use crate::document::{
     Document, NodeKind, Rule, MOST_ACTIONS, MOST_ANCHORS, MOST_BINDS, MOST_LINKS, MOST_NODES,
     MOST_PROPERTIES, MOST_RULES,
@@ -111,6 +112,21 @@ pub enum Feature {
     LogFilled,
     LogWithPartOfAGroup,
     EmptyLogAccepted,
+    /// A check of counts, with the first condition that fails or 0.
+    CountsChecked {
+        condition: u8,
+    },
+    CountsCheckRefused {
+        refusal: u8,
+    },
+    CountGiven,
+    /// A condition in place of an anchor's count.
+    NoCount {
+        condition: u8,
+    },
+    CountRefused {
+        refusal: u8,
+    },
 }
 
 impl Feature {
@@ -221,6 +237,26 @@ impl Feature {
     }
 }
 
+impl Feature {
+    /// All that must be met where counts are looked at.
+    ///
+    /// Not in the list: condition 1 in place of a count, for the media of an anchor has one.
+    pub fn expected_of_counts() -> Vec<Feature> {
+        let mut expected = vec![Feature::CountGiven];
+        for condition in 0..=6 {
+            expected.push(Feature::CountsChecked { condition });
+        }
+        for condition in 2..=6 {
+            expected.push(Feature::NoCount { condition });
+        }
+        for refusal in [10, 13] {
+            expected.push(Feature::CountsCheckRefused { refusal });
+            expected.push(Feature::CountRefused { refusal });
+        }
+        expected
+    }
+}
+
 #[derive(Default)]
 pub struct Coverage {
     numbers: BTreeMap<Feature, u64>,
@@ -237,10 +273,21 @@ impl Coverage {
 
     /// The expected features whose counter is 0.
     pub fn missing(&self) -> Vec<Feature> {
-        Feature::expected()
-            .into_iter()
-            .filter(|feature| !self.numbers.contains_key(feature))
-            .collect()
+        self.missing_of(Feature::expected())
+    }
+
+    /// The features expected where counts are looked at whose counter is 0.
+    pub fn missing_of_counts(&self) -> Vec<Feature> {
+        self.missing_of(Feature::expected_of_counts())
+    }
+
+    fn missing_of(&self, mut expected: Vec<Feature>) -> Vec<Feature> {
+        expected.retain(|feature| !self.numbers.contains_key(feature));
+        expected
+    }
+
+    pub fn number(&self, feature: Feature) -> u64 {
+        self.numbers.get(&feature).copied().unwrap_or(0)
     }
 
     /// Loads the document and counts how that went.
@@ -404,6 +451,18 @@ impl Coverage {
         self.meet(match answer {
             Ok(()) => Feature::ReadAccepted { class },
             Err(refusal) => Feature::ReadRefused { refusal: refusal.number() },
+        });
+    }
+
+    pub fn meet_counts(&mut self, (check, count): (CheckAnswer, CountAnswer)) {
+        self.meet(match check {
+            Ok(shown) => Feature::CountsChecked { condition: number_or_0(shown) },
+            Err(refusal) => Feature::CountsCheckRefused { refusal: refusal.number() },
+        });
+        self.meet(match count {
+            Ok(Ok(_)) => Feature::CountGiven,
+            Ok(Err(failing)) => Feature::NoCount { condition: failing.number() },
+            Err(refusal) => Feature::CountRefused { refusal: refusal.number() },
         });
     }
 }

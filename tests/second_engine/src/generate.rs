@@ -12,8 +12,8 @@ use crate::random::Random;
 use crate::record::Record;
 use crate::written::{WrittenAction, WrittenSession};
 
-const CONTEXT: u8 = 0;
-const MEDIA: u8 = 1;
+pub(crate) const CONTEXT: u8 = 0;
+pub(crate) const MEDIA: u8 = 1;
 const SWITCH: u8 = 2;
 
 /// A generated document: its records, and whether the generator means it to load.
@@ -26,7 +26,7 @@ pub struct Generated {
 }
 
 /// How many entries a document is to get in each table, as far as there is room.
-struct Shape {
+pub(crate) struct Shape {
     limit: u8,
     nodes: usize,
     anchors: usize,
@@ -43,7 +43,7 @@ struct Shape {
 }
 
 impl Shape {
-    fn small(random: &mut Random) -> Self {
+    pub(crate) fn small(random: &mut Random) -> Self {
         Shape {
             limit: random.pick(&[1, 2, 3, 5, 10, 20, 60, 255]),
             nodes: if random.one_in(16) { 1 } else { random.between(2, 12) },
@@ -87,20 +87,20 @@ impl Shape {
 }
 
 #[derive(Clone, Copy)]
-struct DraftNode {
-    node_type: u8,
-    parent: u8,
-    duration: u16,
+pub(crate) struct DraftNode {
+    pub(crate) node_type: u8,
+    pub(crate) parent: u8,
+    pub(crate) duration: u16,
 }
 
 /// A valid document in the making.
-#[derive(Default)]
-struct Draft {
-    records: Vec<Record>,
-    nodes: Vec<DraftNode>,
+#[derive(Clone, Default)]
+pub(crate) struct Draft {
+    pub(crate) records: Vec<Record>,
+    pub(crate) nodes: Vec<DraftNode>,
     anchors: usize,
-    properties: usize,
-    rules: usize,
+    pub(crate) properties: usize,
+    pub(crate) rules: usize,
     binds: usize,
     switches_with_default: Vec<u8>,
     ports: Vec<(u8, u8)>,
@@ -149,7 +149,7 @@ impl Draft {
         draft
     }
 
-    fn ids_of_type(&self, is_type: impl Fn(u8) -> bool) -> Vec<u8> {
+    pub(crate) fn ids_of_type(&self, is_type: impl Fn(u8) -> bool) -> Vec<u8> {
         (0..self.nodes.len() as u8)
             .filter(|&id| is_type(self.nodes[usize::from(id)].node_type))
             .collect()
@@ -163,7 +163,7 @@ impl Draft {
             .collect()
     }
 
-    fn add_node(&mut self, random: &mut Random, shape: &Shape) -> bool {
+    pub(crate) fn add_node(&mut self, random: &mut Random, shape: &Shape) -> bool {
         let node = if self.nodes.is_empty() {
             DraftNode { node_type: CONTEXT, parent: NO_ID, duration: 0 }
         } else {
@@ -187,6 +187,11 @@ impl Draft {
             };
             DraftNode { node_type, parent, duration }
         };
+        self.push_node(random, shape, node);
+        true
+    }
+
+    pub(crate) fn push_node(&mut self, random: &mut Random, shape: &Shape, node: DraftNode) {
         let DraftNode { node_type, parent, duration } = node;
         self.records.push(Record::Node { node_type, parent, duration });
         self.nodes.push(node);
@@ -200,7 +205,6 @@ impl Draft {
                 _ => {}
             }
         }
-        true
     }
 
     fn add_anchor(&mut self, random: &mut Random) -> bool {
@@ -223,12 +227,16 @@ impl Draft {
     }
 
     fn add_property(&mut self, random: &mut Random) -> bool {
-        self.properties += 1;
-        self.records.push(Record::Property { value: random.value() });
+        self.push_property(random.value());
         true
     }
 
-    fn add_rule(&mut self, random: &mut Random) -> bool {
+    pub(crate) fn push_property(&mut self, value: i32) {
+        self.properties += 1;
+        self.records.push(Record::Property { value });
+    }
+
+    pub(crate) fn add_rule(&mut self, random: &mut Random) -> bool {
         if self.rules > 0 && random.one_in(3) {
             self.records.push(Record::CompositeRule {
                 operator: random.below(2) as u8,
@@ -301,10 +309,7 @@ impl Draft {
         if subjects == 0 {
             return false;
         }
-        let guard = match self.rules > 0 && random.one_in(2) {
-            true => random.below(self.rules) as u8,
-            false => NO_ID,
-        };
+        let guard = self.rule_or_none(random);
         let owner = random.pick(&self.ids_of_type(|node_type| node_type == CONTEXT));
         let subject = random.below(subjects) as u8;
         let transition = match class {
@@ -322,6 +327,13 @@ impl Draft {
             self.actions_of_latest_link = 1;
         }
         true
+    }
+
+    pub(crate) fn rule_or_none(&self, random: &mut Random) -> u8 {
+        match self.rules > 0 && random.one_in(2) {
+            true => random.below(self.rules) as u8,
+            false => NO_ID,
+        }
     }
 
     fn add_action(&mut self, random: &mut Random) -> bool {

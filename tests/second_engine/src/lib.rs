@@ -4,6 +4,8 @@
 
 pub mod call;
 pub mod check;
+pub mod count_reports;
+pub mod counts;
 pub mod coverage;
 pub mod document;
 pub mod event;
@@ -19,6 +21,7 @@ pub mod session;
 pub mod written;
 
 pub use call::Call;
+pub use counts::Condition;
 pub use event::State;
 pub use printed::{printed_run, printed_run_with};
 pub use probe::{Fault, Probe};

@@ -8,15 +8,28 @@ pub enum Fault {
     GuardReadWhenLogged,
     AnchorAwakeAtEnd,
     LinksBeforeAllMediaTicked,
+    PauseMovesClock,
+    NewestLineFirst,
+    LastLineNotTaken,
+    AnchorStartsLate,
 }
 
 impl Fault {
-    pub const ALL: [Fault; 5] = [
+    /// The traps that 01 names.
+    pub const TRAPS: [Fault; 5] = [
         Fault::SettleAfterEachMedia,
         Fault::CountAborts,
         Fault::GuardReadWhenLogged,
         Fault::AnchorAwakeAtEnd,
         Fault::LinksBeforeAllMediaTicked,
+    ];
+
+    /// Faults that go against the statements on shown counts.
+    pub const AGAINST_COUNTS: [Fault; 4] = [
+        Fault::PauseMovesClock,
+        Fault::NewestLineFirst,
+        Fault::LastLineNotTaken,
+        Fault::AnchorStartsLate,
     ];
 }
 

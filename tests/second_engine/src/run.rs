@@ -7,6 +7,7 @@
 //!   paused; 01 names no line for it.
 //! - A firing is counted when its line has been logged.
 
+use std::collections::VecDeque;
 use std::rc::Rc;
 
 use crate::call::Call;
@@ -22,7 +23,9 @@ pub struct Run<'a> {
     /// The number of lines that fit in the log slice.
     room: usize,
     lines: Vec<Line>,
-    /// The number of lines whose links have been looked at.
+    /// The places of the lines not yet taken.
+    waiting: VecDeque<usize>,
+    /// The place of the line taken last.
     taken: usize,
     firings: usize,
     probe: &'a mut Probe,
@@ -44,6 +47,7 @@ impl<'a> Run<'a> {
             session: session.clone(),
             room,
             lines: Vec::new(),
+            waiting: VecDeque::new(),
             taken: 0,
             firings: 0,
             probe,
@@ -138,6 +142,9 @@ impl<'a> Run<'a> {
         });
         if matches!(action, NodeAction::Start | NodeAction::Stop | NodeAction::Abort) {
             self.session.nodes[media].clock = 0;
+        }
+        if action == NodeAction::Pause && self.has(Fault::PauseMovesClock) {
+            self.session.nodes[media].clock += 1;
         }
         let media_first = matches!(action, NodeAction::Start | NodeAction::Resume);
         if media_first {
@@ -237,8 +244,10 @@ impl<'a> Run<'a> {
                 self.enter_anchor(anchor, State::Sleeping, Transition::Stops)?;
             }
         }
+        let late = u16::from(self.has(Fault::AnchorStartsLate));
         for &anchor in &node.anchors {
-            if document.anchors[anchor].begin == clock {
+            let begin = document.anchors[anchor].begin;
+            if begin > 0 && begin + late == clock {
                 self.enter_anchor(anchor, State::Occurring, Transition::Starts)?;
             }
         }
@@ -251,7 +260,9 @@ impl<'a> Run<'a> {
     /// Takes the lines not yet taken in order and fires the links that wait for them.
     fn fire_links(&mut self) -> Result<(), Refusal> {
         let document = Rc::clone(&self.document);
-        while let Some(&line) = self.lines.get(self.taken) {
+        while let Some(place) = self.next_line() {
+            self.taken = place;
+            let line = self.lines[place];
             for (id, link) in document.links.iter().enumerate() {
                 if link.matches(line) && self.guard_holds(link.guard) {
                     ensure(self.firings < usize::from(document.limit), Refusal::FiringLimit)?;
@@ -260,9 +271,19 @@ impl<'a> Run<'a> {
                     link.actions.iter().try_for_each(|&action| self.act(action))?;
                 }
             }
-            self.taken += 1;
         }
         Ok(())
+    }
+
+    /// The place of the line to take next: the first that was not taken.
+    fn next_line(&mut self) -> Option<usize> {
+        if self.has(Fault::NewestLineFirst) {
+            return self.waiting.pop_back();
+        }
+        if self.has(Fault::LastLineNotTaken) && self.waiting.len() == 1 {
+            return None;
+        }
+        self.waiting.pop_front()
     }
 
     fn guard_holds(&mut self, guard: Option<usize>) -> bool {
@@ -289,6 +310,7 @@ impl<'a> Run<'a> {
 
     fn push_line(&mut self, line: Line) -> Result<(), Refusal> {
         ensure(self.lines.len() < self.room, Refusal::LogFull)?;
+        self.waiting.push_back(self.lines.len());
         self.lines.push(line);
         if self.has(Fault::GuardReadWhenLogged) {
             self.values_when_logged.push(self.session.values());

@@ -13,6 +13,7 @@
 use std::rc::Rc;
 
 use crate::call::Call;
+use crate::counts::{CheckAnswer, CountAnswer};
 use crate::document::{
     Document, NodeKind, Rule, MOST_ACTIONS, MOST_ANCHORS, MOST_BINDS, MOST_LINKS, MOST_NODES,
     MOST_PORTS, MOST_PROPERTIES, MOST_RULES, NO_ID,
@@ -170,6 +171,14 @@ impl WrittenSession {
 
     pub fn read(&self, class: u8, id: u8) -> Result<Reading, Refusal> {
         Session::try_from(self)?.read(class, id)
+    }
+
+    pub fn check_counts(&self, media: u8, property: u8) -> CheckAnswer {
+        Session::try_from(self)?.check_counts(media, property)
+    }
+
+    pub fn count_of(&self, anchor: u8, property: u8) -> CountAnswer {
+        Session::try_from(self)?.count_of(anchor, property)
     }
 
     fn counts_fit(&self) -> bool {

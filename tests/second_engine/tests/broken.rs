@@ -42,6 +42,8 @@ fn assert_broken(change: impl Fn(&mut WrittenSession)) {
     assert_eq!(log, [0; 30]);
     assert_eq!(session.tick(&mut []), refused);
     assert_eq!(session.read(99, 99).map(|_| 0), refused);
+    assert_eq!(session.check_counts(99, 99).map(|_| 0), refused);
+    assert_eq!(session.count_of(99, 99).map(|_| 0), refused);
     assert_eq!(session, before);
 }
 

@@ -3,9 +3,8 @@
 
 mod common;
 
-use common::{document, script};
+use common::{calls_of, document};
 use second_engine::check::History;
-use second_engine::fields::Fields;
 use second_engine::generate;
 use second_engine::random::Random;
 use second_engine::{load, Call, Fault, Probe, WrittenSession};
@@ -54,7 +53,7 @@ fn generated_runs() -> impl Iterator<Item = (Vec<u8>, Vec<Call>)> {
 #[test]
 fn generated_runs_find_every_fault() {
     let runs: Vec<_> = generated_runs().collect();
-    for fault in Fault::ALL {
+    for fault in Fault::TRAPS {
         let found = runs.iter().filter(|(document, calls)| differs(document, calls, fault)).count();
         assert!(found > 0, "{fault:?} is not found");
     }
@@ -95,10 +94,8 @@ fn one_document_for_each_fault() {
         ),
     ];
     for (planted, document_text, script_text) in cases {
-        let bytes = script(script_text);
-        let mut fields = Fields::of(&bytes);
-        let calls: Vec<Call> = std::iter::from_fn(|| Call::read(&mut fields)).collect();
-        for fault in Fault::ALL {
+        let calls = calls_of(script_text);
+        for fault in Fault::TRAPS {
             assert_eq!(differs(&document(document_text), &calls, fault), fault == planted);
         }
     }

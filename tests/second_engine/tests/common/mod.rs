@@ -34,14 +34,22 @@ pub fn run(document_text: &str, script_text: &str) -> Vec<String> {
 /// The session after all calls, with ample log slices.
 pub fn session_after(document_text: &str, script_text: &str) -> Session {
     let mut session = load(&document(document_text)).expect("the document loads");
-    let bytes = script(script_text);
-    let mut fields = Fields::of(&bytes);
-    while !fields.is_empty() {
-        let call = Call::read(&mut fields).expect("a whole script");
+    for call in calls_of(script_text) {
         // A refused call leaves the session as it is.
         let _ = session.call(call, &mut [0; 4_096]);
     }
     session
+}
+
+/// The calls of a script in notation.
+pub fn calls_of(script_text: &str) -> Vec<Call> {
+    let bytes = script(script_text);
+    let mut fields = Fields::of(&bytes);
+    let mut calls = Vec::new();
+    while !fields.is_empty() {
+        calls.push(Call::read(&mut fields).expect("a whole script"));
+    }
+    calls
 }
 
 pub fn written_after(document_text: &str, script_text: &str) -> WrittenSession {

@@ -6,11 +6,19 @@ use Prim.Native.Nat.{ℕ, _+_, _<_, _≤_}
 use native.Mathlib.Nat.{add-zero}
 use native.Mathlib.Numerals.{add-one}
 use native.Mathlib.Omega.{arith}
-use borrow.Author.Tests.{eqb-true, eqb-false}
+use borrow.Author.Tests.{eqb-true, eqb-false, eq-eqb}
 use lib.ListN.{length, length-set, getD, set, replicate, getD-replicate}
 use lib.Seq.{getD-set-same, getD-set-other}
 use Rattle.base.specs.Tests.{if_then_else_, _=?_, by-test}
 use Rattle.base.specs.Loops.{some, passing, passing-most}
+
+-- one entry of a table is stored: where it was to change it has, and the others were to stay
+entry-stored : {A : Type 0} (none : A) (table : List A) (m : ℕ) (value : A) (old new : ℕ → A) → m < length table → ((n : ℕ) → n < 256 → getD table n none ≡ old n)
+    → value ≡ new m → ((n : ℕ) → m =? n ≡ false → new n ≡ old n) → (n : ℕ) → n < 256 → getD (set table m value) n none ≡ new n
+entry-stored none table m value old new fits entries here there n l =
+    by-test (m =? n)
+    (λ q. rw (sym (eqb-true m n q)) (getD-set-same table m value none fits ∙ here))
+    (λ q. getD-set-other table m n value none (λ u. eqb-false m n q (sym u)) ∙ entries n l ∙ sym (there n q))
 
 pub record Marked (test : ℕ → ℕ → Bool) (entries : ℕ) (marks : List Bool) : Type 0 where
   pub places : length marks ≡ 256
@@ -25,19 +33,12 @@ module _ (test : ℕ → ℕ → Bool) where
   pub marked-more : (i m : ℕ) (marks : List Bool) (passes value : Bool) → m < 256 → ((n : ℕ) → test n i ≡ (m =? n && passes))
       → value ≡ (getD marks m false || passes) → Marked test i marks → Marked test (i + 1) (set marks m value)
   unfolding some
-  marked-more i m marks passes value h one e k =
-      record {
-        places = length-set marks m value ∙ k .places;
-        marked = λ n l.
-            rw add-one
-            (by-test (m =? n)
-            (λ q.
-            let u : n ≡ m = sym (eqb-true m n q) in
-            rw (one n, q, u) (getD-set-same marks m value false (omega (arith, k .places)) ∙ e ∙ rw (k .marked m h)))
-            (λ q.
-            rw (one n, q, or-false)
-            (getD-set-other marks m n value false (λ u. eqb-false m n q (sym u)) ∙ k .marked n l)));
-      }
+  marked-more i m marks passes value h one e k = record {
+    places = length-set marks m value ∙ k .places;
+    marked = entry-stored false marks m value (λ n. some (test n) i) (λ n. some (test n) (i + 1)) (omega (arith, k .places)) (k .marked)
+        (rw (add-one, one m, eq-eqb m m refl, ← k .marked m h) e)
+        (λ n q. rw (add-one, one n, q, or-false));
+  }
 
   pub marked-done : (i n : ℕ) (marks : List Bool) → i ≡ n → Marked test i marks → Marked test n marks
   marked-done i n marks e k = rw e at k
@@ -55,19 +56,12 @@ module _ (test : ℕ → ℕ → Bool) where
   pub numbered-more : (i m : ℕ) (numbers : List ℕ) (passes : Bool) (value : ℕ) → m < 256 → ((n : ℕ) → test n i ≡ (m =? n && passes))
       → value ≡ getD numbers m 0 + (if passes then 1 else 0) → Numbered test i numbers → Numbered test (i + 1) (set numbers m value)
   unfolding passing if_then_else_
-  numbered-more i m numbers passes value h one e k =
-      record {
-        places = length-set numbers m value ∙ k .places;
-        numbered = λ n l.
-            rw add-one
-            (by-test (m =? n)
-            (λ q.
-            let u : n ≡ m = sym (eqb-true m n q) in
-            rw (one n, q, u) (getD-set-same numbers m value 0 (omega (arith, k .places)) ∙ e ∙ rw (k .numbered m h)))
-            (λ q.
-            rw (one n, q, add-zero)
-            (getD-set-other numbers m n value 0 (λ u. eqb-false m n q (sym u)) ∙ k .numbered n l)));
-      }
+  numbered-more i m numbers passes value h one e k = record {
+    places = length-set numbers m value ∙ k .places;
+    numbered = entry-stored 0 numbers m value (λ n. passing (test n) i) (λ n. passing (test n) (i + 1)) (omega (arith, k .places)) (k .numbered)
+        (rw (add-one, one m, eq-eqb m m refl, ← k .numbered m h) e)
+        (λ n q. rw (add-one, one n, q, add-zero));
+  }
 
   pub numbered-done : (i n : ℕ) (numbers : List ℕ) → i ≡ n → Numbered test i numbers → Numbered test n numbers
   numbered-done i n numbers e k = rw e at k

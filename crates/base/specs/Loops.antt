@@ -111,7 +111,8 @@ first-least test zero i j l h e = absurd (omega arith)
 first-least test (suc k) i j l h e =
     by-test (test i)
     (λ p. rw p l)
-    (λ p. rw p (⊎-elim (λ (q : i ≡ j). absurd (false≢true (sym p ∙ rw q e))) (λ (q : i < j). first-least test k (i + 1) j (omega arith) (omega arith) e) (eq-or-lt-of-le l)))
+    (λ p. rw p (⊎-elim (λ (q : i ≡ j). absurd (false≢true (sym p ∙ rw q e)))
+    (λ (q : i < j). first-least test k (i + 1) j (omega arith) (omega arith) e) (eq-or-lt-of-le l)))
 
 -- ---- laws of `passing`: in a loop that counts; none passes; exactly one does, the first
 
@@ -157,7 +158,8 @@ module _ (test : ℕ → Bool) where
       by-test (test n)
       (λ p.
       let last : (i : ℕ) → i < suc n → test i ≡ true → i ≡ n
-      = λ i h t. by-test (n ≤? i) (λ q. omega (arith, leb-true n i q)) (λ q. absurd (false≢true (sym (none-passing n (omega (arith, rw p at e)) i (leb-false n i q)) ∙ t))) in
+      = λ i h t. by-test (n ≤? i) (λ q. omega (arith, leb-true n i q))
+      (λ q. absurd (false≢true (sym (none-passing n (omega (arith, rw p at e)) i (leb-false n i q)) ∙ t))) in
       last j hj tj ∙ sym (last k hk tk))
       (λ p.
       let below : (i : ℕ) → i < suc n → test i ≡ true → i < n

@@ -13,8 +13,9 @@ use Rattle.base.specs.Tests.{if_then_else_, _=?_, by-test}
 use Rattle.base.specs.Loops.{some, passing, passing-most}
 
 -- one entry of a table is stored: where it was to change it has, and the others were to stay
-entry-stored : {A : Type 0} (none : A) (table : List A) (m : ℕ) (value : A) (old new : ℕ → A) → m < length table → ((n : ℕ) → n < 256 → getD table n none ≡ old n)
-    → value ≡ new m → ((n : ℕ) → m =? n ≡ false → new n ≡ old n) → (n : ℕ) → n < 256 → getD (set table m value) n none ≡ new n
+entry-stored : {A : Type 0} (none : A) (table : List A) (m : ℕ) (value : A) (old new : ℕ → A)
+    → m < length table → ((n : ℕ) → n < 256 → getD table n none ≡ old n) → value ≡ new m → ((n : ℕ) → m =? n ≡ false → new n ≡ old n)
+    → (n : ℕ) → n < 256 → getD (set table m value) n none ≡ new n
 entry-stored none table m value old new fits entries here there n l =
     by-test (m =? n)
     (λ q. rw (sym (eqb-true m n q)) (getD-set-same table m value none fits ∙ here))

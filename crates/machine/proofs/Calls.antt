@@ -3,37 +3,50 @@ use Prim.Native.Nat.{ℕ, _≤_}
 use native.Mathlib.Omega.{arith}
 use mathlib.Core.Bool.{true, false, true≢false}
 use mathlib.Core.List.{List, [], _∷_, _++_, append-assoc, append-nil}
+use mathlib.Core.Logic.{_⊎_, inl, inr, ⊎-elim}
 use mathlib.Core.Path.{_≡_, refl, sym, _∙_}
 use lib.Dec.{lit<, lit≤}
-use lib.IntN.{ℤ, pos}
-use borrow.Author.Tests.{eqb-true, eqb-false, ne-eqb, leb-true, not-true, not-false}
-use Rattle.base.specs.Tests.{if_then_else_, _=?_, both-pass, no-fault}
-use Rattle.machine.specs.Records.{actionRight}
+use lib.IntN.{pos}
+use borrow.Author.Tests.{eqb-true, eqb-false, ne-eqb, not-true, not-false}
+use Rattle.base.specs.Tests.{if_then_else_, _=?_, no-fault}
 use Rattle.machine.specs.Answers.{accepted}
-use Rattle.machine.specs.Log.{emptyLog, sliceWith, linesOf}
+use Rattle.machine.specs.Log.{sliceWith, linesOf}
 use Rattle.machine.specs.Events.{Run}
+use Rattle.machine.specs.Tick.{keyed}
+use Rattle.machine.specs.Chain.{goesOn}
 use Rattle.machine.specs.Broken.{broken}
-use Rattle.machine.specs.Operations.{Call, command, key, tick, CallResult, argumentFault, begun, runOf, callRefused, ended, call, sessionAfter, resultsOf, joined}
+use Rattle.machine.specs.Operations.{CallResult, commandFault, argumentFault, begun, commandSets, freshRun, runOf, callRefused, ended, call, sessionAfter, resultsOf, joined}
+use Rattle.machine.specs.Counts.{valueOf}
 use Rattle.machine.specs.Demand3.{number, ReportsFirings, Each}
-use Rattle.machine.specs.Sound.{Sound}
+use Rattle.machine.specs.Sound.{Applicable, Sound}
 use Rattle.machine.specs.declared.Document.{Document}
 use Rattle.machine.specs.declared.Session.{Session}
+use Rattle.machine.specs.declared.Call.{Call}
+use Rattle.machine.specs.declared.Call.the-variants.{Command, Key, Tick}
+use Rattle.machine.specs.declared.ActionRecord.{ActionRecord}
 use Rattle.machine.specs.declared.Line.{Line}
-use Rattle.machine.proofs.SoundTables.{target-node, target-property}
-use Rattle.machine.proofs.Keep.{Target, Actions, actions, steps, chained-keeps, chosen}
+use Rattle.machine.proofs.SoundTables.{applicable}
+use Rattle.machine.proofs.Keep.{Actions, actions, steps, chained-keeps, chosen}
 use Rattle.machine.proofs.Tally.{Tallied, TalliedRun, tallies}
 use Rattle.machine.proofs.Firings.{FiredRun, firings, read-back}
-use Rattle.machine.proofs.Shape.{Shaped, state-ends}
+use Rattle.machine.proofs.Shape.{Shaped, ShapedRun, state-ends}
+use Rattle.machine.proofs.Values.{acted-value, ticked-value}
 use Rattle.machine.proofs.Settling.{RightRun, rights}
 use Rattle.machine.proofs.Whole.{WholeTests, whole, unbroken-sound, not-broken, states-right, right-states}
 
 -- ---- a call is refused, and the session stays; or its run is accepted
 
-fault-low : (d : Document) (c : Call) → argumentFault d c ≤ 10
-unfolding argumentFault
-fault-low d (command action t value) = chosen (λ n. n ≤ 10) _ (λ _. lit≤ tt) (λ _. chosen (λ n. n ≤ 10) _ (λ _. lit≤ tt) (λ _. lit≤ tt))
-fault-low d (key code) = lit≤ tt
-fault-low d tick = lit≤ tt
+argument-not-13 : (d : Document) (c : Call) → argumentFault d c ≡ 13 → ⊥
+unfolding argumentFault commandFault
+argument-not-13 d (Command a) = chosen (λ n. n ≡ 13 → ⊥) _ (λ _ e. omega arith) (λ _. chosen (λ n. n ≡ 13 → ⊥) _ (λ _ e. omega arith) (λ _ e. omega arith))
+argument-not-13 d (Key code) = λ e. omega arith
+argument-not-13 d Tick = λ e. omega arith
+
+pub command-applicable : (d : Document) (a : ActionRecord) → commandFault d a ≡ 0 → Applicable d a
+unfolding commandFault
+command-applicable d a e =
+    let right = no-fault _ 9 _ (lit< tt) e in
+    applicable d a (not-false _ (right .0)) (not-false _ (no-fault _ 10 _ (lit< tt) (right .1) .0))
 
 abbrev acceptedRun : Session → ℕ → Run → CallResult
 acceptedRun s bytes r = record {
@@ -42,17 +55,21 @@ acceptedRun s bytes r = record {
   log = sliceWith (r .log .lines) bytes;
 }
 
+-- whence a 13 may come: a broken session, or what stops the run
+abbrev Thirteen : Session → Call → ℕ → Type 0
+Thirteen s c bytes = (broken s ≡ true) ⊎ ((argumentFault (s .document) c ≡ 0) × (runOf s c bytes .log .stop ≡ 13))
+
 pub call-gives : (s : Session) (c : Call) (bytes : ℕ) (P : CallResult → Type 0)
-    → ((number : ℕ) → (number ≡ 0 → ⊥) → (number ≡ 13 → broken s ≡ true) → P (callRefused number s bytes))
-    → (argumentFault (s .document) c ≡ 0 → runOf s c bytes .log .full ≡ false → runOf s c bytes .limited ≡ false → P (acceptedRun s bytes (runOf s c bytes)))
+    → ((number : ℕ) → (number ≡ 0 → ⊥) → (number ≡ 13 → Thirteen s c bytes) → P (callRefused number s bytes))
+    → (argumentFault (s .document) c ≡ 0 → runOf s c bytes .log .stop ≡ 0 → P (acceptedRun s bytes (runOf s c bytes)))
     → P (call s c bytes)
-unfolding call ended
+unfolding call ended goesOn
 call-gives s c bytes P refused kept =
-    chosen P _ (λ b. refused 13 (λ e. omega arith) (λ _. b))
-    (λ _. chosen P _ (λ f. refused _ (eqb-false _ _ (not-true _ f)) (λ q. absurd (omega (arith, fault-low (s .document) c))))
-    (λ f. chosen P _ (λ _. refused 12 (λ e. omega arith) (λ e. absurd (omega arith)))
-    (λ full. chosen P _ (λ _. refused 11 (λ e. omega arith) (λ e. absurd (omega arith)))
-    (λ limited. kept (eqb-true _ _ (not-false _ f)) full limited))))
+    chosen P _ (λ b. refused 13 (λ e. omega arith) (λ _. inl b))
+    (λ _. chosen P _ (λ f. refused _ (eqb-false _ _ (not-true _ f)) (λ q. absurd (argument-not-13 (s .document) c q)))
+    (λ f.
+    let right = eqb-true _ _ (not-false _ f) in
+    chosen P _ (λ e. kept right (eqb-true _ _ e)) (λ e. refused _ (eqb-false _ _ e) (λ q. inr (right, q)))))
 
 -- the lines so far, and those of a call
 abbrev pub linesAfter : List Line → CallResult → List Line
@@ -62,7 +79,7 @@ linesAfter h r = h ++ (if r .answer .refusal =? 0 then linesOf (r .log) else [])
 
 both : (d : Document) (P Q : Run → Type 0) → Actions d P → Actions d Q → Actions d (λ r. P r × Q r)
 both d P Q p q = record {
-  action = λ action target value r t k. (p .action action target value r t (k .0), q .action action target value r t (k .1));
+  action = λ a r t k. (p .action a r t (k .0), q .action a r t (k .1));
   tick = λ r k. (p .tick r (k .0), q .tick r (k .1));
   lines = record {
     key = λ code r k. (p .lines .key code r (k .0), q .lines .key code r (k .1));
@@ -95,38 +112,32 @@ module _ (h : List Line) (s : Session) (invariant : Invariant h s) where
 
   -- ---- the run of a call
 
-  abbrev first : ℕ → Run
-  first bytes = record { state = s .state; log = emptyLog bytes; firings = 0; limited = false }
-
-  pub first-kept : (bytes : ℕ) → Kept (first bytes)
+  pub first-kept : (bytes : ℕ) → Kept (freshRun (s .state) bytes)
   unfolding number
   first-kept bytes =
       let r = states-right d (s .state) (tests .states) in (
-        ((invariant .shaped, λ _. rw append-nil (invariant .tallied)), record { counted = λ _. refl; below = omega arith; classed = tt }),
+        ((invariant .shaped, λ _. rw append-nil (invariant .tallied)), record { counted = λ _. refl; below = omega arith; classed = tt; not-13 = λ e. omega arith }),
         record { timed = record { shaped = invariant .shaped; timed = r .timed }; composed = r .composed },
       )
-
-  pub target : (action t : ℕ) (value : ℤ) → argumentFault d (command action t value) ≡ 0 → Target d action t
-  unfolding argumentFault actionRight
-  target action t value e =
-      let a = no-fault _ 9 _ (lit< tt) e in
-      let b = no-fault _ 10 _ (lit< tt) (a .1) in
-      let c = both-pass _ _ (not-false _ (a .0)) in
-      let l = both-pass _ _ (c .0) in
-      let g = not-false _ (b .0) in
-      record { least = leb-true _ _ (l .0); node = target-node d action t g; property = target-property d action t g }
 
   -- what actions keep, a call keeps
   module _ (P : Run → Type 0) (keep : Actions d P) where
     pub begun-keeps : (c : Call) → argumentFault d c ≡ 0 → (r : Run) → P r → P (begun d c r)
-    unfolding begun
-    begun-keeps (command action t value) e r k = keep .action action t value r (target action t value e) k
-    begun-keeps (key code) e r k = keep .lines .key code r k
-    begun-keeps tick e r k = keep .tick r k
+    unfolding begun argumentFault
+    begun-keeps (Command a) e r k = keep .action a r (command-applicable d a e) k
+    begun-keeps (Key code) e r k = keep .lines .key code r k
+    begun-keeps Tick e r k = keep .tick r k
 
-    pub run-keeps : (c : Call) (bytes : ℕ) → argumentFault d c ≡ 0 → P (first bytes) → P (runOf s c bytes)
+    pub run-keeps : (c : Call) (bytes : ℕ) → argumentFault d c ≡ 0 → P (freshRun (s .state) bytes) → P (runOf s c bytes)
     unfolding runOf
     run-keeps c bytes e k = chained-keeps d P facts keep _ (begun-keeps c e _ k)
+
+  -- what a call does before the chain leaves the value of p, if it is no command that sets it
+  pub begun-value : (p : ℕ) (c : Call) → argumentFault d c ≡ 0 → commandSets p c ≡ false → (r : Run) → ShapedRun d r → valueOf (begun d c r .state) p ≡ valueOf (r .state) p
+  unfolding begun argumentFault keyed commandSets if_then_else_
+  begun-value p (Command a) e n r k = acted-value d facts p a r (command-applicable d a e) k ∙ rw n
+  begun-value p (Key code) e n r k = refl
+  begun-value p Tick e n r k = ticked-value d facts p r
 
   pub run-kept : (c : Call) (bytes : ℕ) → argumentFault d c ≡ 0 → Kept (runOf s c bytes)
   run-kept c bytes e = run-keeps Kept keeps c bytes e (first-kept bytes)
@@ -139,7 +150,7 @@ module _ (h : List Line) (s : Session) (invariant : Invariant h s) where
     never : r .answer .refusal ≡ 13 → ⊥
     tables : r .session .document ≡ d
 
-  accepted-returns : (bytes : ℕ) (r : Run) → Kept r → r .log .full ≡ false → Returned (acceptedRun s bytes r)
+  accepted-returns : (bytes : ℕ) (r : Run) → Kept r → r .log .stop ≡ 0 → Returned (acceptedRun s bytes r)
   unfolding if_then_else_
   accepted-returns bytes r k f =
       let back = read-back (r .log .lines) bytes (k .0 .1 .classed) in
@@ -170,10 +181,10 @@ module _ (h : List Line) (s : Session) (invariant : Invariant h s) where
       (λ number z t. record {
         still = rw (ne-eqb number 0 z, append-nil) invariant;
         fires = record { reports = λ e. absurd (z e); within = λ e. absurd (z e) };
-        never = λ e. true≢false (sym (t e) ∙ invariant .unbroken);
+        never = λ e. ⊎-elim (λ b. true≢false (sym b ∙ invariant .unbroken)) (λ b. run-kept c bytes (b .0) .0 .1 .not-13 (b .1)) (t e);
         tables = refl;
       })
-      (λ e full _. accepted-returns bytes _ (run-kept c bytes e) full)
+      (λ e goes-on. accepted-returns bytes _ (run-kept c bytes e) goes-on)
 
 -- ---- lists of calls
 

@@ -1,177 +1,134 @@
--- The columns of the tables, of the document and of what changes: each keeps its length, and past the table's end it is zero.
+-- The columns of the tables, of the document and of what changes: each keeps its places, and past the table's end it is zero.
 use Prim.Native.Nat.{ℕ, zero, suc, _+_, _*_, _≤_, _<_}
-use native.Mathlib.Numerals.{add-one}
 use native.Mathlib.Omega.{arith}
-use mathlib.Core.Bool.{Bool, true, _&&_}
+use mathlib.Core.Bool.{Bool, true}
 use mathlib.Core.List.{List, [], _∷_}
-use mathlib.Core.Path.{_≡_, refl, sym, _∙_}
+use mathlib.Core.Path.{_≡_, refl, ap, _∙_}
 use lib.IntN.{ℤ, pos}
 use lib.ListN.{length, getD, set, take, drop, length-set, length-drop}
-use lib.Seq.{drop-cons, drop-set-lt, take-set-lt, take-set-le, drop-set-add, length-take-le}
-use borrow.Author.Tests.{eqb-true}
-use Rattle.base.specs.Tests.{_=?_, equalInts, both-pass, pass-both}
-use Rattle.machine.specs.Tables.{actionCount, latest, moreActionCounts, moreActions}
-use Rattle.machine.specs.Broken.{allZero, allZeroInts, slotsZero, slotIntsZero, documentEndsZero}
+use lib.Seq.{getD-set-same, getD-set-other, getD-take, getD-drop, length-take-le}
+use borrow.Author.Tests.{eqb-true, eqb-false, ltb-true, ltb-false}
+use Rattle.base.specs.Tests.{_=?_, _<?_, by-test, pass-both}
+use Rattle.machine.specs.Tables.{Column, numbers, integers, Table, nodeTable, anchorTable, ruleTable, bindTable, portTable, linkTable, actionTables}
+use Rattle.machine.specs.Broken.{all, zeroFrom, endsZero, documentEndsZero}
 use Rattle.machine.specs.declared.Document.{Document}
-use Rattle.machine.specs.declared.Nodes.{Nodes}
-use Rattle.machine.specs.declared.Anchors.{Anchors}
-use Rattle.machine.specs.declared.Rules.{Rules}
-use Rattle.machine.specs.declared.Binds.{Binds}
-use Rattle.machine.specs.declared.Ports.{Ports}
-use Rattle.machine.specs.declared.Links.{Links}
-use Rattle.machine.specs.declared.Actions.{Actions}
-use Rattle.machine.specs.declared.ActionRecord.{ActionRecord}
 
--- ---- one column, of numbers or of signed numbers
+-- ---- one column: what is not zero stands before place n
 
-pub record Column {A : Type 0} (none : List A → Bool) (n size : ℕ) (l : List A) : Type 0 where
-  pub len : length l ≡ size
-  pub ends : none (drop n l) ≡ true
+pub record Filled {A : Type 0} (z : A) (n places : ℕ) (l : List A) : Type 0 where
+  pub len : length l ≡ places
+  pub ends : (i : ℕ) → n ≤ i → getD l i z ≡ z
 
-module _ {A : Type 0} {none : List A → Bool} {n size : ℕ} {l : List A} where
+module _ {A : Type 0} {z : A} {n places : ℕ} {l : List A} where
   -- a store before the end
-  pub stored : (i : ℕ) (x : A) → i < n → Column none n size l → Column none n size (set l i x)
-  stored i x h c = record { len = length-set l i x ∙ c .len; ends = rw (drop-set-lt n l i x h) (c .ends) }
+  pub stored : (i : ℕ) (x : A) → i < n → Filled z n places l → Filled z n places (set l i x)
+  stored i x h c = record { len = length-set l i x ∙ c .len; ends = λ k b. getD-set-other l i k x z (λ e. omega arith) ∙ c .ends k b }
 
-  module _ (tail : (x : A) (xs : List A) → none (x ∷ xs) ≡ true → none xs ≡ true) (z : A) (h : n < size) (c : Column none n size l) where
-    -- the end one further, and a store in what is gained
-    longer : Column none (n + 1) size l
-    longer = record { len = c .len; ends = rw add-one (tail (getD l n z) (drop (suc n) l) (rw (drop-cons l n z (omega (arith, c .len))) at (c .ends))) }
+  -- the end one further
+  pub longer : Filled z n places l → Filled z (n + 1) places l
+  longer c = record { len = c .len; ends = λ k b. c .ends k (omega arith) }
 
-    more : (x : A) → Column none (n + 1) size (set l n x)
-    more x = record { len = length-set l n x ∙ c .len; ends = rw (drop-set-lt (n + 1) l n x (omega arith)) (longer .ends) }
+-- and a store in the place that is gained
+pub more : {A : Type 0} {z : A} {n places : ℕ} {l : List A} (x : A) → Filled z n places l → Filled z (n + 1) places (set l n x)
+more x c = stored _ x (omega arith) (longer c)
 
-zero-tail : (x : ℕ) (xs : List ℕ) → allZero (x ∷ xs) ≡ true → allZero xs ≡ true
-unfolding allZero
-zero-tail x xs e = both-pass (x =? 0) (allZero xs) e .1
+all-zero : {A : Type 0} (test : A → Bool) (z : A) → test z ≡ true → (l : List A) (n : ℕ) → ((i : ℕ) → n ≤ i → getD l i z ≡ z) → all test (drop n l) ≡ true
+unfolding all
+all-zero test z e [] zero p = refl
+all-zero test z e [] (suc n) p = refl
+all-zero test z e (x ∷ xs) zero p = pass-both _ _ (ap test (p 0 (omega arith)) ∙ e) (all-zero test z e xs zero (λ i b. p (suc i) (omega arith)))
+all-zero test z e (x ∷ xs) (suc n) p = all-zero test z e xs n (λ i b. p (suc i) (omega arith))
 
-zero-int-tail : (x : ℤ) (xs : List ℤ) → allZeroInts (x ∷ xs) ≡ true → allZeroInts xs ≡ true
-unfolding allZeroInts
-zero-int-tail x xs e = both-pass (equalInts x (pos 0)) (allZeroInts xs) e .1
+-- ---- the columns of a table
 
--- ---- columns of numbers, beside each other
+abbrev pub Fits : ℕ → ℕ → List Column → Type 0
+Fits n places [] = Unit {0}
+Fits n places (numbers l ∷ cs) = Filled 0 n places l × Fits n places cs
+Fits n places (integers l ∷ cs) = Filled (pos 0) n places l × Fits n places cs
 
-abbrev pub Numbers : ℕ → ℕ → List (List ℕ) → Type 0
-Numbers n size [] = Unit {0}
-Numbers n size (l ∷ ls) = Column allZero n size l × Numbers n size ls
+abbrev pub Whole : Table → Type 0
+Whole t = Fits (t .count) (t .places) (t .columns)
 
--- numbers stored at one place, each in its column; columns for which there is none stay
-abbrev pub row : ℕ → List ℕ → List (List ℕ) → List (List ℕ)
-row i xs [] = []
-row i [] (l ∷ ls) = l ∷ row i [] ls
-row i (x ∷ xs) (l ∷ ls) = set l i x ∷ row i xs ls
+columns-end : (n places : ℕ) (cs : List Column) → Fits n places cs → all (zeroFrom n) cs ≡ true
+unfolding all
+columns-end n places [] c = refl
+columns-end n places (numbers l ∷ cs) c = pass-both _ _ (all-zero (λ x. x =? 0) 0 refl l n (c .0 .ends)) (columns-end n places cs (c .1))
+columns-end n places (integers l ∷ cs) c = pass-both _ _ (all-zero _ (pos 0) refl l n (c .0 .ends)) (columns-end n places cs (c .1))
 
-pub stored-row : (n size i : ℕ) → i < n → (xs : List ℕ) (ls : List (List ℕ)) → Numbers n size ls → Numbers n size (row i xs ls)
-stored-row n size i h xs [] c = tt
-stored-row n size i h [] (l ∷ ls) c = (c .0, stored-row n size i h [] ls (c .1))
-stored-row n size i h (x ∷ xs) (l ∷ ls) c = (stored i x h (c .0), stored-row n size i h xs ls (c .1))
+pub whole-ends : (t : Table) → Whole t → endsZero t ≡ true
+whole-ends t = columns-end (t .count) (t .places) (t .columns)
 
-pub more-row : {n size : ℕ} → n < size → (xs : List ℕ) (ls : List (List ℕ)) → Numbers n size ls → Numbers (n + 1) size (row n xs ls)
-more-row h xs [] c = tt
-more-row h [] (l ∷ ls) c = (longer zero-tail 0 h (c .0), more-row h [] ls (c .1))
-more-row h (x ∷ xs) (l ∷ ls) c = (more zero-tail 0 h (c .0) x, more-row h xs ls (c .1))
+-- ---- a column of the actions, in eight places for each link
 
-pub more-ints : {n size : ℕ} {l : List ℤ} → n < size → Column allZeroInts n size l → (x : ℤ) → Column allZeroInts (n + 1) size (set l n x)
-more-ints h c x = more zero-int-tail (pos 0) h c x
+pub record Slots {A : Type 0} (z : A) (counts : List ℕ) (l : List A) : Type 0 where
+  pub len : length l ≡ 8 * length counts
+  pub ends : (k j : ℕ) → getD counts k 0 ≤ j → j < 8 → getD l (8 * k + j) z ≡ z
 
--- past the end stands 0
-pub past-end : {n size : ℕ} {l : List ℕ} → n < size → Column allZero n size l → getD l n 0 ≡ 0
-unfolding allZero
-past-end {n} {l = l} h c = eqb-true _ _ (both-pass (getD l n 0 =? 0) (allZero (drop (suc n) l)) (rw (drop-cons l n 0 (omega (arith, c .len))) at (c .ends)) .0)
+module _ {A : Type 0} {z : A} {n : ℕ} {counts : List ℕ} {l : List A} (s : Slots z (n ∷ counts) l) where
+  -- the places of the first link, and those of the others
+  first : Filled z n 8 (take 8 l)
+  first = record {
+    len = length-take-le 8 l (omega (arith, s .len));
+    ends = λ i b. by-test (i <? 8)
+        (λ h. let j = ltb-true i 8 h in let e : 8 * 0 + i ≡ i = omega arith in getD-take 8 l i z j ∙ rw e at (s .ends 0 i b j))
+        (λ h. past 8 l i (ltb-false i 8 h));
+  }
+    where
+      past : (m : ℕ) (l : List A) (i : ℕ) → m ≤ i → getD (take m l) i z ≡ z
+      past zero l i h = refl
+      past (suc m) [] i h = refl
+      past (suc m) (x ∷ xs) zero h = absurd (omega arith)
+      past (suc m) (x ∷ xs) (suc i) h = past m xs i (omega arith)
 
--- ---- the slots of the actions, eight for each link: one more action of link k
+  others : Slots z counts (drop 8 l)
+  others = record {
+    len = length-drop 8 l ∙ omega (arith, s .len);
+    ends = λ k j b h. let e : 8 + (8 * k + j) ≡ 8 * suc k + j = omega arith in getD-drop 8 l (8 * k + j) z ∙ rw e (s .ends (suc k) j b h);
+  }
 
-module _ {A : Type 0} (none : List A → Bool) (tail : (x : A) (xs : List A) → none (x ∷ xs) ≡ true → none xs ≡ true) (z : A)
-    (slots : List ℕ → List A → Bool) (one : (n : ℕ) (counts : List ℕ) (l : List A) → slots (n ∷ counts) l ≡ (none (drop n (take 8 l)) && slots counts (drop 8 l))) where
-  slot-stored : (counts : List ℕ) (l : List A) (k : ℕ) (x : A) → k < length counts → getD counts k 0 < 8 → 8 * length counts ≤ length l
-      → slots counts l ≡ true → slots (set counts k (getD counts k 0 + 1)) (set l (8 * k + getD counts k 0) x) ≡ true
-  slot-stored [] l k x h c f e = absurd (omega arith)
-  slot-stored (n ∷ counts) l zero x h c f e =
-      let p = both-pass (none (drop n (take 8 l))) (slots counts (drop 8 l)) (sym (one n counts l) ∙ e) in
-      let i : 8 * 0 + n ≡ n = omega arith in
-      let column : Column none n 8 (take 8 l) = record { len = length-take-le 8 l (omega arith); ends = p .0 } in
-      rw (i, one (n + 1) counts (set l n x), take-set-lt 8 l n x c, drop-set-lt 8 l n x c)
-      (pass-both _ _ (more tail z c column x .ends) (p .1))
-  slot-stored (n ∷ counts) l (suc k) x h c f e =
-      let p = both-pass (none (drop n (take 8 l))) (slots counts (drop 8 l)) (sym (one n counts l) ∙ e) in
-      let m = getD counts k 0 in
-      let i : 8 * suc k + m ≡ 8 + (8 * k + m) = omega arith in
-      rw (i, one n (set counts k (m + 1)) (set l (8 + (8 * k + m)) x), take-set-le 8 l (8 + (8 * k + m)) x (omega arith), drop-set-add 8 l (8 * k + m) x)
-      (pass-both _ _ (p .0) (slot-stored counts (drop 8 l) k x (omega arith) c (rw (length-drop 8 l) (omega arith)) (p .1)))
+action-ends : (counts actions targets : List ℕ) (values : List ℤ) → Slots 0 counts actions → Slots 0 counts targets → Slots (pos 0) counts values
+    → all endsZero (actionTables counts actions targets values) ≡ true
+unfolding all
+action-ends [] actions targets values a t v = refl
+action-ends (n ∷ counts) actions targets values a t v =
+    pass-both _ _ (columns-end n 8 (numbers _ ∷ numbers _ ∷ integers _ ∷ []) (first a, (first t, (first v, tt)))) (action-ends counts _ _ _ (others a) (others t) (others v))
 
-slot-numbers : (counts l : List ℕ) (k x : ℕ) → k < length counts → getD counts k 0 < 8 → 8 * length counts ≤ length l
-    → slotsZero counts l ≡ true → slotsZero (set counts k (getD counts k 0 + 1)) (set l (8 * k + getD counts k 0) x) ≡ true
-unfolding slotsZero
-slot-numbers = slot-stored allZero zero-tail 0 slotsZero (λ n counts l. refl)
-
-slot-ints : (counts : List ℕ) (l : List ℤ) (k : ℕ) (x : ℤ) → k < length counts → getD counts k 0 < 8 → 8 * length counts ≤ length l
-    → slotIntsZero counts l ≡ true → slotIntsZero (set counts k (getD counts k 0 + 1)) (set l (8 * k + getD counts k 0) x) ≡ true
-unfolding slotIntsZero
-slot-ints = slot-stored allZeroInts zero-int-tail (pos 0) slotIntsZero (λ n counts l. refl)
+-- one action more, of link k
+pub slot-stored : {A : Type 0} {z : A} {counts : List ℕ} {l : List A} (k : ℕ) (x : A) → k < length counts → getD counts k 0 < 8 → Slots z counts l
+    → Slots z (set counts k (getD counts k 0 + 1)) (set l (8 * k + getD counts k 0) x)
+slot-stored {z = z} {counts} {l} k x h c s =
+    let n = getD counts k 0 in
+    let kept : (i j : ℕ) → getD counts i 0 ≤ j → j < 8 → (8 * i + j ≡ 8 * k + n → ⊥) → getD (set l (8 * k + n) x) (8 * i + j) z ≡ z
+    = λ i j b m u. getD-set-other l (8 * k + n) (8 * i + j) x z u ∙ s .ends i j b m in
+    record {
+      len = length-set l _ x ∙ rw (length-set counts k (n + 1)) (s .len);
+      ends = λ i j b m. by-test (i =? k)
+          (λ e. let q = eqb-true i k e in let f : n + 1 ≤ j = rw (q, getD-set-same counts k (n + 1) 0 h) at b in rw q (kept k j (omega arith) m (λ u. omega arith)))
+          (λ e. let q = eqb-false i k e in kept i j (rw (getD-set-other counts k i (n + 1) 0 q) at b) m (λ u. omega arith));
+    }
 
 -- ---- the columns of a document
 
-pub record ActionColumns (counts : List ℕ) (t : Actions) : Type 0 where
-  pub actions : length (t .actions) ≡ 512
-  pub targets : length (t .targets) ≡ 512
-  pub values : length (t .values) ≡ 512
-  pub actions-end : slotsZero counts (t .actions) ≡ true
-  pub targets-end : slotsZero counts (t .targets) ≡ true
-  pub values-end : slotIntsZero counts (t .values) ≡ true
-
-abbrev pub nodeColumns : Nodes → List (List ℕ)
-nodeColumns t = t .types ∷ t .parents ∷ t .durations ∷ []
-
-abbrev pub anchorColumns : Anchors → List (List ℕ)
-anchorColumns t = t .media ∷ t .begins ∷ t .ends ∷ []
-
-abbrev pub ruleColumns : Rules → List (List ℕ)
-ruleColumns t = t .kinds ∷ t .properties ∷ t .comparators ∷ t .operators ∷ t .lefts ∷ t .rights ∷ []
-
-abbrev pub bindColumns : Binds → List (List ℕ)
-bindColumns t = t .switches ∷ t .children ∷ t .rules ∷ []
-
-abbrev pub portColumns : Ports → List (List ℕ)
-portColumns t = t .contexts ∷ t .children ∷ []
-
-abbrev pub linkColumns : Links → List (List ℕ)
-linkColumns t = t .owners ∷ t .classes ∷ t .subjects ∷ t .transitions ∷ t .guards ∷ t .«action_counts» ∷ []
-
 pub record Columns (d : Document) : Type 0 where
-  pub nodes : Numbers (d .nodes .count) 64 (nodeColumns (d .nodes))
-  pub anchors : Numbers (d .anchors .count) 128 (anchorColumns (d .anchors))
-  pub rules : Numbers (d .rules .count) 32 (ruleColumns (d .rules))
-  pub values : Column allZeroInts (d .rules .count) 32 (d .rules .values)
-  pub binds : Numbers (d .binds .count) 64 (bindColumns (d .binds))
-  pub ports : Numbers (d .ports .count) 64 (portColumns (d .ports))
-  pub links : Numbers (d .links .count) 64 (linkColumns (d .links))
-  pub actions : ActionColumns (d .links .«action_counts») (d .actions)
+  pub nodes : Whole (nodeTable (d .nodes))
+  pub anchors : Whole (anchorTable (d .anchors))
+  pub rules : Whole (ruleTable (d .rules))
+  pub binds : Whole (bindTable (d .binds))
+  pub ports : Whole (portTable (d .ports))
+  pub links : Whole (linkTable (d .links))
+  pub actions : Slots 0 (d .links .«action_counts») (d .actions .actions)
+  pub targets : Slots 0 (d .links .«action_counts») (d .actions .targets)
+  pub values : Slots (pos 0) (d .links .«action_counts») (d .actions .values)
 
 pub document-ends : (d : Document) → Columns d → documentEndsZero d ≡ true
 unfolding documentEndsZero
 document-ends d c =
-    let n = c .nodes in
-    let a = c .anchors in
-    let r = c .rules in
-    let l = c .links in
-    rw (n .0 .ends, n .1 .0 .ends, n .1 .1 .0 .ends, a .0 .ends, a .1 .0 .ends, a .1 .1 .0 .ends)
-    (rw (r .0 .ends, r .1 .0 .ends, r .1 .1 .0 .ends, c .values .ends, r .1 .1 .1 .0 .ends, r .1 .1 .1 .1 .0 .ends, r .1 .1 .1 .1 .1 .0 .ends)
-    (rw (c .binds .0 .ends, c .binds .1 .0 .ends, c .binds .1 .1 .0 .ends, c .ports .0 .ends, c .ports .1 .0 .ends)
-    (rw (l .0 .ends, l .1 .0 .ends, l .1 .1 .0 .ends, l .1 .1 .1 .0 .ends, l .1 .1 .1 .1 .0 .ends, l .1 .1 .1 .1 .1 .0 .ends)
-    (rw (c .actions .actions-end, c .actions .targets-end, c .actions .values-end)))))
-
--- one action more, of the latest link
-pub more-actions : (t : Links) (a : Actions) (r : ActionRecord) → length (t .«action_counts») ≡ 64 → latest t < 64 → actionCount t (latest t) < 8 → ActionColumns (t .«action_counts») a
-    → ActionColumns (moreActionCounts t .«action_counts») (moreActions (8 * latest t + actionCount t (latest t)) r a)
-more-actions t a r e l n o =
-    let counts = t .«action_counts» in
-    let k : latest t < length counts = rw e l in
-    let fits : (m : ℕ) → m ≡ 512 → 8 * length counts ≤ m = λ m q. omega arith in
-    record {
-      actions = length-set (a .actions) _ _ ∙ o .actions;
-      targets = length-set (a .targets) _ _ ∙ o .targets;
-      values = length-set (a .values) _ _ ∙ o .values;
-      actions-end = slot-numbers counts (a .actions) (latest t) _ k n (fits _ (o .actions)) (o .actions-end);
-      targets-end = slot-numbers counts (a .targets) (latest t) _ k n (fits _ (o .targets)) (o .targets-end);
-      values-end = slot-ints counts (a .values) (latest t) _ k n (fits _ (o .values)) (o .values-end);
-    }
+    rw (
+      whole-ends (nodeTable (d .nodes)) (c .nodes),
+      whole-ends (anchorTable (d .anchors)) (c .anchors),
+      whole-ends (ruleTable (d .rules)) (c .rules),
+      whole-ends (bindTable (d .binds)) (c .binds),
+      whole-ends (portTable (d .ports)) (c .ports),
+      whole-ends (linkTable (d .links)) (c .links),
+      action-ends (d .links .«action_counts») _ _ _ (c .actions) (c .targets) (c .values),
+    )

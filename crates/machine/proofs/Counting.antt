@@ -9,32 +9,31 @@ use borrow.Author.Tests.{ne-eqb}
 use Rattle.base.specs.Tests.{if_then_else_}
 use Rattle.machine.specs.Terms.{noId}
 use Rattle.machine.specs.Load.{load}
-use Rattle.machine.specs.Events.{Run}
-use Rattle.machine.specs.Tick.{keyed}
-use Rattle.machine.specs.Operations.{Call, command, key, tick, argumentFault, begun, runOf, callRefused, call, sessionAfter, resultsOf, joined}
+use Rattle.machine.specs.Operations.{argumentFault, commandSets, runOf, callRefused, call, sessionAfter, resultsOf, joined}
 use Rattle.machine.specs.Demand3.{number}
-use Rattle.machine.specs.Counts.{showsCounts, lastStarted, lastCount, valueOf, commandSets, NeverSets, CountsForEveryList}
+use Rattle.machine.specs.Counts.{showsCounts, lastStarted, lastCount, valueOf, NeverSets, CountsForEveryList}
 use Rattle.machine.specs.Sound.{Sound}
 use Rattle.machine.specs.declared.Document.{Document}
 use Rattle.machine.specs.declared.Session.{Session}
+use Rattle.machine.specs.declared.Call.{Call}
 use Rattle.machine.specs.declared.Line.{Line}
 use Rattle.machine.proofs.Keep.{steps, actions}
 use Rattle.machine.proofs.Shape.{ShapedRun, shapes}
 use Rattle.machine.proofs.Firings.{read-back}
 use Rattle.machine.proofs.Whole.{unbroken-sound}
-use Rattle.machine.proofs.Calls.{call-gives, linesAfter, Invariant, first-kept, target, begun-keeps, run-keeps, run-kept, call-returns}
+use Rattle.machine.proofs.Calls.{call-gives, linesAfter, Invariant, first-kept, begun-keeps, begun-value, run-keeps, run-kept, call-returns}
 use Rattle.machine.proofs.FirstSession.{loaded-invariant}
 use Rattle.machine.proofs.Demand.{demand-3}
 use Rattle.machine.proofs.Showing.{Shows, shows, anchor-given, is-anchor}
 use Rattle.machine.proofs.Growing.{AddedRun, none-added, adds}
-use Rattle.machine.proofs.Values.{acted-value, ticked-value, chained-value}
+use Rattle.machine.proofs.Values.{chained-value}
 use Rattle.machine.proofs.Latest.{Latest, LatestRun, latests}
 
 -- what is kept from call to call, after the lines h of the calls before
 record Counting (m p : ℕ) (before : ℤ) (h : List Line) (s : Session) : Type 0 where
   shown : showsCounts (s .document) m p ≡ true
   value : valueOf (s .state) p ≡ lastCount (s .document) m p before h
-  latest : Latest h (s .document) m (s .state .«anchor_state») (lastStarted (s .document) m noId h)
+  latest : Latest h (s .document) m (s .state .anchors .states) (lastStarted (s .document) m noId h)
 
 module _ (m p : ℕ) (before : ℤ) (h : List Line) (s : Session) (invariant : Invariant h s) (counting : Counting m p before h s) where
   abbrev d : Document
@@ -53,21 +52,14 @@ module _ (m p : ℕ) (before : ℤ) (h : List Line) (s : Session) (invariant : I
       run-keeps h s invariant _ (actions d _ facts (latests h d m facts p showing)) c bytes e
       (first-kept h s invariant bytes .1 .timed, record { room = omega (arith, facts .anchors, invariant .shaped .anchors .0 .len); holds = λ _. rw append-nil (counting .latest) })
 
-  begun-value : (c : Call) → argumentFault d c ≡ 0 → commandSets p c ≡ false → (r : Run) → ShapedRun d r → valueOf (begun d c r .state) p ≡ valueOf (r .state) p
-  unfolding begun keyed commandSets if_then_else_
-  begun-value (command action t value) e n r k =
-      acted-value d facts p action t value r (target h s invariant action t value e) k ∙ rw n
-  begun-value (key code) e n r k = refl
-  begun-value tick e n r k = ticked-value d facts p r
-
-  run-value : (c : Call) (bytes : ℕ) → argumentFault d c ≡ 0 → commandSets p c ≡ false → runOf s c bytes .limited ≡ false
+  run-value : (c : Call) (bytes : ℕ) → argumentFault d c ≡ 0 → commandSets p c ≡ false → runOf s c bytes .log .stop ≡ 0
       → valueOf (runOf s c bytes .state) p ≡ lastCount d m p before (h ++ runOf s c bytes .log .lines)
   unfolding runOf
   run-value c bytes e n =
       chained-value d facts p m showing before h _
       (begun-keeps h s invariant (ShapedRun d) (actions d _ facts (steps d _ (shapes d))) c e _ (invariant .shaped))
       (begun-keeps h s invariant (AddedRun d _) (actions d _ facts (steps d _ (adds d _))) c e _ (none-added _ (omega arith)) .fits)
-      (λ _. begun-value c e n _ (invariant .shaped) ∙ counting .value)
+      (λ _. begun-value h s invariant p c e n _ (invariant .shaped) ∙ counting .value)
 
   -- ---- what a call returns
 
@@ -76,10 +68,10 @@ module _ (m p : ℕ) (before : ℤ) (h : List Line) (s : Session) (invariant : I
   call-still c bytes =
       call-gives s c bytes (λ r. (r .answer .refusal ≡ 0 → commandSets p c ≡ false) → Counting m p before (linesAfter h r) (r .session))
       (λ number z _ _. rw (ne-eqb number 0 z, append-nil) counting)
-      (λ e full limited n. rw (read-back _ bytes (run-kept h s invariant c bytes e .0 .1 .classed)) (record {
+      (λ e goes-on n. rw (read-back _ bytes (run-kept h s invariant c bytes e .0 .1 .classed)) (record {
         shown = counting .shown;
-        value = run-value c bytes e (n refl) limited;
-        latest = run-latest c bytes e .1 .holds full;
+        value = run-value c bytes e (n refl) goes-on;
+        latest = run-latest c bytes e .1 .holds goes-on;
       }))
 
 -- ---- lists of calls

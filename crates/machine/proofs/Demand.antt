@@ -12,11 +12,12 @@ use Rattle.machine.specs.Tables.{parentOf, anchorAt}
 use Rattle.machine.specs.Load.{load}
 use Rattle.machine.specs.Events.{nodeState, nodeClock, anchorState, childIn, childrenState}
 use Rattle.machine.specs.Broken.{anchorStateIn}
-use Rattle.machine.specs.Operations.{Call, callRefused, call, sessionAfter, resultsOf}
+use Rattle.machine.specs.Operations.{callRefused, call, sessionAfter, resultsOf}
 use Rattle.machine.specs.Demand3.{AChildIs, CompositeRule, AnchorRule, Balanced, Holds, ForEveryList}
 use Rattle.machine.specs.declared.Document.{Document}
 use Rattle.machine.specs.declared.State.{State}
 use Rattle.machine.specs.declared.Session.{Session}
+use Rattle.machine.specs.declared.Call.{Call}
 use Rattle.machine.specs.declared.Line.{Line}
 use Rattle.machine.proofs.Tally.{oneIfAwake, EventTallied}
 use Rattle.machine.proofs.Whole.{whole, states-right}
@@ -27,7 +28,7 @@ use Rattle.machine.proofs.Calls.{call-gives, Invariant, after-calls}
 
 module _ (d : Document) (s : State) (c : ℕ) where
   abbrev test : ℕ → ℕ → Bool
-  test state = childIn (d .nodes) (s .«node_state») state c
+  test state = childIn (d .nodes) (s .nodes .states) state c
 
   a-child : (state : ℕ) → some (test state) (d .nodes .count) ≡ true → AChildIs d s c state
   unfolding childIn
@@ -43,7 +44,7 @@ module _ (d : Document) (s : State) (c : ℕ) where
   no-child : (state : ℕ) → some (test state) (d .nodes .count) ≡ false → AChildIs d s c state → ⊥
   no-child state e k = true≢false (sym (child-some state k) ∙ e)
 
-  composite-rule : nodeState s c ≡ childrenState (d .nodes) (s .«node_state») c → CompositeRule d s c
+  composite-rule : nodeState s c ≡ childrenState (d .nodes) (s .nodes .states) c → CompositeRule d s c
   unfolding childrenState if_then_else_
   composite-rule e =
       by-test (some (test occurring) (d .nodes .count))
@@ -104,7 +105,7 @@ balanced class id state count ls e = record {
 
 refused-leaves : (s : Session) (c : Call) (bytes : ℕ) → (call s c bytes .answer .refusal ≡ 0 → ⊥) → call s c bytes .session ≡ s
 unfolding callRefused
-refused-leaves s c bytes = call-gives s c bytes (λ r. (r .answer .refusal ≡ 0 → ⊥) → r .session ≡ s) (λ _ _ _ _. refl) (λ _ _ _ n. absurd (n refl))
+refused-leaves s c bytes = call-gives s c bytes (λ r. (r .answer .refusal ≡ 0 → ⊥) → r .session ≡ s) (λ _ _ _ _. refl) (λ _ _ n. absurd (n refl))
 
 -- ---- all of it, from a session that has what is kept, before any line
 

@@ -83,12 +83,12 @@ pub moved-from : {n new : ℕ} {s t c e s' c' : List ℕ} → s ≡ t → c ≡ 
 moved-from p q m = rw (p, q) at m
 
 abbrev pub RunOnly : ℕ → Run → Run → Type 0
-RunOnly n x y = Only n (x .state .«node_state») (x .state .«node_clock») (y .state .«node_state») (y .state .«node_clock»)
+RunOnly n x y = Only n (x .state .nodes .states) (x .state .nodes .clocks) (y .state .nodes .states) (y .state .nodes .clocks)
 
 abbrev pub RunMoved : ℕ → ℕ → Run → Run → Type 0
-RunMoved n new x y = NodeMoved n new (x .state .«node_state») (x .state .«node_clock») (y .state .«node_state») (y .state .«node_clock»)
+RunMoved n new x y = NodeMoved n new (x .state .nodes .states) (x .state .nodes .clocks) (y .state .nodes .states) (y .state .nodes .clocks)
 
-pub node-moves : (aborting : Bool) (n new : ℕ) (x : Run) → n < length (x .state .«node_state») → n < length (x .state .«node_clock») → RunMoved n new x (nodeTo aborting n new x)
+pub node-moves : (aborting : Bool) (n new : ℕ) (x : Run) → n < length (x .state .nodes .states) → n < length (x .state .nodes .clocks) → RunMoved n new x (nodeTo aborting n new x)
 unfolding nodeTo nodeChanged if_then_else_
 node-moves aborting n new x h k =
     let old = nodeState (x .state) n in
@@ -108,25 +108,25 @@ node-moves aborting n new x h k =
     (λ e.
     let t = turned aborting old new (eqb-false old new e) in
     rw (t .some) (record {
-      here = getD-set-same (x .state .«node_state») n new 0 h;
-      only = record { state = λ j d. getD-set-other (x .state .«node_state») n j new 0 d; clock = λ j d. getD-set-other (x .state .«node_clock») n j _ 0 d };
-      clock-stays = λ a b. getD-set-same (x .state .«node_clock») n _ 0 k ∙ t .stays a b clock;
-      clock-wakes = λ z b. getD-set-same (x .state .«node_clock») n _ 0 k ∙ t .wakes z clock;
-      clock-sleeps = λ a z. getD-set-same (x .state .«node_clock») n _ 0 k ∙ t .sleeps z clock;
-      clock-low = λ z. getD-set-same (x .state .«node_clock») n _ 0 k ∙ ap (clocked u) z ∙ clocked-zero u;
+      here = getD-set-same (x .state .nodes .states) n new 0 h;
+      only = record { state = λ j d. getD-set-other (x .state .nodes .states) n j new 0 d; clock = λ j d. getD-set-other (x .state .nodes .clocks) n j _ 0 d };
+      clock-stays = λ a b. getD-set-same (x .state .nodes .clocks) n _ 0 k ∙ t .stays a b clock;
+      clock-wakes = λ z b. getD-set-same (x .state .nodes .clocks) n _ 0 k ∙ t .wakes z clock;
+      clock-sleeps = λ a z. getD-set-same (x .state .nodes .clocks) n _ 0 k ∙ t .sleeps z clock;
+      clock-low = λ z. getD-set-same (x .state .nodes .clocks) n _ 0 k ∙ ap (clocked u) z ∙ clocked-zero u;
     }))
 
-pub node-leaves-anchors : (aborting : Bool) (n new : ℕ) (x : Run) → nodeTo aborting n new x .state .«anchor_state» ≡ x .state .«anchor_state»
+pub node-leaves-anchors : (aborting : Bool) (n new : ℕ) (x : Run) → nodeTo aborting n new x .state .anchors .states ≡ x .state .anchors .states
 unfolding nodeTo nodeChanged
-node-leaves-anchors aborting n new x = chosen (λ (y : Run). y .state .«anchor_state» ≡ x .state .«anchor_state») _ (λ _. refl) (λ _. refl)
+node-leaves-anchors aborting n new x = chosen (λ (y : Run). y .state .anchors .states ≡ x .state .anchors .states) _ (λ _. refl) (λ _. refl)
 
 -- ---- a move of an anchor
 
 record AnchorMoved (a new : ℕ) (x y : Run) : Type 0 where
-  states : y .state .«node_state» ≡ x .state .«node_state»
-  clocks : y .state .«node_clock» ≡ x .state .«node_clock»
-  len : length (y .state .«anchor_state») ≡ length (x .state .«anchor_state»)
-  here : a < length (x .state .«anchor_state») → anchorState (y .state) a ≡ new
+  states : y .state .nodes .states ≡ x .state .nodes .states
+  clocks : y .state .nodes .clocks ≡ x .state .nodes .clocks
+  len : length (y .state .anchors .states) ≡ length (x .state .anchors .states)
+  here : a < length (x .state .anchors .states) → anchorState (y .state) a ≡ new
   there : (j : ℕ) → (j ≡ a → ⊥) → anchorState (y .state) j ≡ anchorState (x .state) j
 
 anchor-moves : (aborting : Bool) (a new : ℕ) (x : Run) → AnchorMoved a new x (anchorTo aborting a new x)
@@ -138,9 +138,9 @@ anchor-moves aborting a new x =
     (λ e. rw (turned aborting old new (eqb-false old new e) .some) (record {
       states = refl;
       clocks = refl;
-      len = length-set (x .state .«anchor_state») a new;
-      here = λ h. getD-set-same (x .state .«anchor_state») a new 0 h;
-      there = λ j q. getD-set-other (x .state .«anchor_state») a j new 0 q;
+      len = length-set (x .state .anchors .states) a new;
+      here = λ h. getD-set-same (x .state .anchors .states) a new 0 h;
+      there = λ j q. getD-set-other (x .state .anchors .states) a j new 0 q;
     }))
 
 -- ---- a pass over the anchors: each of the first k has gone to the state if it was to move, the others are as they were
@@ -151,14 +151,14 @@ module _ (d : Document) (moves : ℕ → ℕ → ℕ → Bool) (n : ℕ) where
   moving x a = anchorAt (d .anchors) a .media =? n && moves (anchorAt (d .anchors) a .begin) (anchorAt (d .anchors) a .end) (anchorState (x .state) a)
 
   pub record Passed (new : ℕ) (x : Run) (k : ℕ) (y : Run) : Type 0 where
-    pub states : y .state .«node_state» ≡ x .state .«node_state»
-    pub clocks : y .state .«node_clock» ≡ x .state .«node_clock»
-    pub len : length (y .state .«anchor_state») ≡ length (x .state .«anchor_state»)
+    pub states : y .state .nodes .states ≡ x .state .nodes .states
+    pub clocks : y .state .nodes .clocks ≡ x .state .nodes .clocks
+    pub len : length (y .state .anchors .states) ≡ length (x .state .anchors .states)
     pub done : (a : ℕ) → a < k → anchorState (y .state) a ≡ (if moving x a then new else anchorState (x .state) a)
     pub rest : (a : ℕ) → k ≤ a → anchorState (y .state) a ≡ anchorState (x .state) a
 
   module _ (aborting : Bool) (new : ℕ) (x : Run) where
-    one-passes : (k : ℕ) (y : Run) → k < length (x .state .«anchor_state») → Passed new x k y → Passed new x (suc k) (anchorMoved (d .anchors) moves aborting n new k y)
+    one-passes : (k : ℕ) (y : Run) → k < length (x .state .anchors .states) → Passed new x k y → Passed new x (suc k) (anchorMoved (d .anchors) moves aborting n new k y)
     unfolding anchorMoved moving if_then_else_
     one-passes k y h m =
         let same : moving y k ≡ moving x k = rw (m .rest k (omega arith)) in
@@ -184,7 +184,7 @@ module _ (d : Document) (moves : ℕ → ℕ → ℕ → Bool) (n : ℕ) where
           rest = λ a l. m .rest a (omega arith);
         }))
 
-    pub anchors-pass : d .anchors .count ≤ length (x .state .«anchor_state») → Passed new x (d .anchors .count) (anchorsMoved (d .anchors) moves aborting n new x)
+    pub anchors-pass : d .anchors .count ≤ length (x .state .anchors .states) → Passed new x (d .anchors .count) (anchorsMoved (d .anchors) moves aborting n new x)
     unfolding anchorsMoved
     anchors-pass h =
         ascending-turns (Passed new x) (d .anchors .count) x

@@ -6,8 +6,8 @@ use mathlib.Core.Bool.{Bool, true, false, not, _&&_, _||_}
 use mathlib.Core.Path.{_≡_, refl, ap, _∙_}
 use borrow.Author.Tests.{eq-eqb, lt-ltb, le-leb, lt-leb, ltb-true, leb-true}
 use Rattle.base.specs.Tests.{if_then_else_, _=?_, _<?_, _≤?_, by-test, both-pass, pass-both}
-use Rattle.base.specs.Loops.{same-some, each-every, every}
-use Rattle.machine.specs.Terms.{context, media, switch, noId}
+use Rattle.base.specs.Loops.{some, same-some, each-every, every}
+use Rattle.machine.specs.Terms.{context, media, switch, simpleRule, noId}
 use Rattle.machine.specs.Tables.{typeOf, parentOf, durationOf, given, nodeAt, bindAt, portAt}
 use Rattle.machine.specs.Records.{parentRight, nodeFault, anchorFault, propertyFault, ruleFault, simpleRuleFault, compositeRuleFault, bindFault, portFault, linkFault, actionFault, subjectGiven, targetGiven, isDefault, isPort}
 use Rattle.machine.specs.Broken.{nodeObeys, anchorObeys, propertyObeys, ruleObeys, bindObeys, portObeys, actionObeys, linkObeys, tablesObey}
@@ -35,6 +35,9 @@ pub record Extends (d e : Document) : Type 0 where
 
 below-more : (k m n : ℕ) → m ≤ n → k <? m ≡ true → k <? n ≡ true
 below-more k m n h e = lt-ltb k n (omega (arith, ltb-true k m e))
+
+least-more : (m n : ℕ) → m ≤ n → 1 ≤? m ≡ true → 1 ≤? n ≡ true
+least-more m n h e = le-leb 1 n (omega (arith, leb-true 1 m e))
 
 and-more : (a b x y : Bool) → (a ≡ true → x ≡ true) → (b ≡ true → y ≡ true) → a && b ≡ true → x && y ≡ true
 and-more a b x y p q e = let s = both-pass a b e in pass-both x y (p (s .0)) (q (s .1))
@@ -78,40 +81,23 @@ module _ (d e : Document) (x : Extends d e) where
   }
 
   pub anchor-more : (id : ℕ) (r : AnchorRecord) → AnchorPasses (d .nodes) id r → AnchorPasses (e .nodes) id r
-  anchor-more id r p = record {
-    few = p .few;
-    span = p .span;
-    owner = given-more media (r .media) (p .owner);
-    within = rw (duration-same (r .media) (given-type (d .nodes) media (r .media) (p .owner) .0)) (p .within);
-  }
+  anchor-more id r p = let owner = given-type (d .nodes) media (r .media) (p .owner) in search (given-more, duration-same)
 
   pub rule-more : (id : ℕ) (r : RuleRecord) → RulePasses (d .properties) id r → RulePasses (e .properties) id r
-  rule-more id r p = record {
-    few = p .few;
-    simple = λ k. (p .simple k .0, below-more _ _ _ (x .properties) (p .simple k .1));
-    composite = p .composite;
-  }
+  rule-more id r p = record { few = p .few; simple = λ k. let q = p .simple k in search below-more; composite = p .composite }
 
   pub bind-more : (id : ℕ) (r : BindRecord) → id ≤ d .binds .count → BindPasses d id r → BindPasses e id r
   bind-more id r h p =
       let q = both-pass (given (d .nodes) switch (r .switch) && r .child <? d .nodes .count) (r .rule =? noId || r .rule <? d .rules .count) (p .ids) in
       let child = ltb-true (r .child) (d .nodes .count) (both-pass (given (d .nodes) switch (r .switch)) _ (q .0) .1) in
-      record {
-        few = p .few;
-        ids = pass-both _ _ (and-more _ _ _ _ (given-more switch (r .switch)) (below-more _ _ _ (x .nodes)) (q .0)) (none-or-more (r .rule) (q .1));
-        child = rw (parent-same (r .child) child) (p .child);
-        default = rw (same-some (isDefault (e .binds) (r .switch)) (isDefault (d .binds) (r .switch)) id (λ i l. ap (λ (b : BindRecord). b .switch =? r .switch && b .rule =? noId) (x .bind i (omega arith)))) (p .default);
-      }
+      let same : some (isDefault (e .binds) (r .switch)) id ≡ some (isDefault (d .binds) (r .switch)) id = same-some _ _ id (λ i l. ap (λ (b : BindRecord). b .switch =? r .switch && b .rule =? noId) (x .bind i (omega arith))) in
+      search (and-more, given-more, below-more, none-or-more, parent-same, same)
 
   pub port-more : (id : ℕ) (r : PortRecord) → id ≤ d .ports .count → PortPasses d id r → PortPasses e id r
   port-more id r h p =
       let child = ltb-true (r .child) (d .nodes .count) (both-pass (given (d .nodes) context (r .context)) (r .child <? d .nodes .count) (p .ids) .1) in
-      record {
-        few = p .few;
-        ids = and-more _ _ _ _ (given-more context (r .context)) (below-more _ _ _ (x .nodes)) (p .ids);
-        child = rw (parent-same (r .child) child) (p .child);
-        once = rw (same-some (isPort (e .ports) r) (isPort (d .ports) r) id (λ i l. ap (λ (b : PortRecord). b .context =? r .context && b .child =? r .child) (x .port i (omega arith)))) (p .once);
-      }
+      let same : some (isPort (e .ports) r) id ≡ some (isPort (d .ports) r) id = same-some _ _ id (λ i l. ap (λ (b : PortRecord). b .context =? r .context && b .child =? r .child) (x .port i (omega arith))) in
+      search (and-more, given-more, below-more, parent-same, same)
 
   subject-more : (class id : ℕ) → subjectGiven d class id ≡ true → subjectGiven e class id ≡ true
   unfolding subjectGiven
@@ -121,22 +107,14 @@ module _ (d e : Document) (x : Extends d e) where
       (choice-more _ _ _ _ _ (below-more id _ _ (x .properties)) (λ t. t)))
 
   pub link-more : (id : ℕ) (r : LinkRecord) → LinkPasses d id r → LinkPasses e id r
-  link-more id r p = record {
-    few = p .few;
-    fields = p .fields;
-    ids = and-more _ _ _ _ (and-more _ _ _ _ (given-more context (r .owner)) (subject-more (r .class) (r .subject))) (none-or-more (r .guard)) (p .ids);
-  }
+  link-more id r p = search (and-more, given-more, subject-more, none-or-more)
 
   target-more : (action target : ℕ) → targetGiven d action target ≡ true → targetGiven e action target ≡ true
   unfolding targetGiven
   target-more action target = choice-more _ _ _ _ _ (below-more target _ _ (x .properties)) (below-more target _ _ (x .nodes))
 
   pub action-more : (id : ℕ) (r : ActionRecord) → ActionPasses d id r → ActionPasses e id r
-  action-more id r p = record {
-    few = p .few;
-    fields = p .fields;
-    ids = and-more _ _ _ _ (λ (q : 1 ≤? d .links .count ≡ true). le-leb 1 (e .links .count) (omega (arith, leb-true 1 (d .links .count) q, x .links))) (target-more (r .action) (r .target)) (p .ids);
-  }
+  action-more id r p = search (and-more, least-more, target-more)
 
 -- ---- the entries of d pass in e as they do in d
 
@@ -157,7 +135,7 @@ carried d e x h = record {
 rule-faultless : (properties id : ℕ) (r : RuleRecord) → RulePasses properties id r → ruleFault properties id r ≡ 0
 unfolding ruleFault simpleRuleFault compositeRuleFault if_then_else_
 rule-faultless properties id r p =
-    by-test (r .kind =? 4)
+    by-test (r .kind =? simpleRule)
     (λ k. rw (p .few, k, p .simple k .0, p .simple k .1))
     (λ k. rw (p .few, k, p .composite k .0, p .composite k .1))
 

@@ -10,7 +10,7 @@ use lib.Dec.{lit<}
 use lib.ListN.{length, replicate}
 use Rattle.base.specs.Tests.{if_then_else_, _=?_}
 use Rattle.machine.specs.Terms.{noTransition}
-use Rattle.machine.specs.Log.{Log, logged, bytesOf, sliceWith, linesOf}
+use Rattle.machine.specs.Log.{Log, met, logged, bytesOf, sliceWith, linesOf}
 use Rattle.machine.specs.Events.{Run, transition, nodeChanged, nodeTo, anchorChanged, anchorTo, setProperty}
 use Rattle.machine.specs.Tick.{keyed}
 use Rattle.machine.specs.Chain.{firingLogged, limitMet}
@@ -18,7 +18,7 @@ use Rattle.machine.specs.Demand3.{isFired, firedLines}
 use Rattle.machine.specs.declared.Document.{Document}
 use Rattle.machine.specs.declared.Line.{Line}
 use Rattle.machine.proofs.Keep.{Primitives, chosen}
-use Rattle.machine.proofs.Growing.{one-more}
+use Rattle.machine.proofs.Growing.{met-stops, one-more}
 use Rattle.machine.proofs.Tally.{oneIf, number-more}
 
 -- ---- reading a slice back
@@ -53,13 +53,22 @@ read-back ls bytes h = lines-read (bytes - 4 * length ls) ls h
 -- ---- firings
 
 pub record Fired (limit firings : ℕ) (g : Log) : Type 0 where
-  pub counted : g .full ≡ false → firings ≡ firedLines (g .lines)
+  pub counted : g .stop ≡ 0 → firings ≡ firedLines (g .lines)
   pub below : firings ≤ limit
   pub classed : Classed (g .lines)
+  pub not-13 : g .stop ≡ 13 → ⊥
 
 classed-logged : (l : Line) (g : Log) → 0 < l .class → Classed (g .lines) → Classed (logged l g .lines)
 unfolding logged
 classed-logged l g h c = chosen (λ (x : Log). Classed (x .lines)) _ (λ _. classed-more (g .lines) l h c) (λ _. c)
+
+-- no 13 stops a run
+met-not-13 : (number : ℕ) (g : Log) → (number ≡ 13 → ⊥) → (g .stop ≡ 13 → ⊥) → met number g .stop ≡ 13 → ⊥
+met-not-13 number g h p = chosen (λ n. n ≡ 13 → ⊥) _ (λ _. h) (λ _. p)
+
+logged-not-13 : (l : Line) (g : Log) → (g .stop ≡ 13 → ⊥) → logged l g .stop ≡ 13 → ⊥
+unfolding logged
+logged-not-13 l g p = chosen (λ (x : Log). x .stop ≡ 13 → ⊥) _ (λ _. p) (λ _. met-not-13 12 g (λ e. omega arith) p)
 
 -- a line, of so many firings
 line-fired : (limit firings more : ℕ) (l : Line) (g : Log) → 0 < l .class → oneIf (isFired l) ≡ more → firings + more ≤ limit → Fired limit firings g → Fired limit (firings + more) (logged l g)
@@ -67,6 +76,7 @@ line-fired limit firings more l g h e b p = record {
   counted = one-more [] (λ ls. firings ≡ firedLines ls) (λ ls. firings + more ≡ firedLines ls) l g (λ ls q. rw (number-more isFired ls l, e, q)) (p .counted);
   below = b;
   classed = classed-logged l g h (p .classed);
+  not-13 = logged-not-13 l g (p .not-13);
 }
 
 module _ (limit : ℕ) where
@@ -100,6 +110,6 @@ module _ (d : Document) where
     lines = record {
       key = λ code r p. plain _ _ _ (r .log) (lit< tt) refl p;
       firing = λ l r h p. line-fired _ _ 1 _ (r .log) (lit< tt) refl (omega arith) p;
-      limit = λ r p. p;
+      limit = λ r p. record { counted = λ f. absurd (met-stops 11 (r .log) (lit< tt) f); below = p .below; classed = p .classed; not-13 = met-not-13 11 (r .log) (λ e. omega arith) (p .not-13) };
     };
   }

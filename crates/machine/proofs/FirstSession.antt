@@ -1,65 +1,73 @@
 -- The session of an accepted load is not broken, nothing in it is awake, and nothing is counted: by induction over the records.
-use Prim.Native.Nat.{ℕ, zero, suc, _≤_, _<_}
+use Prim.Native.Nat.{ℕ, zero, suc, _+_, _*_, _≤_, _<_}
 use native.Mathlib.Omega.{arith}
 use mathlib.Core.Bool.{true, false, _&&_}
 use mathlib.Core.List.{List, [], _∷_}
 use mathlib.Core.Path.{_≡_, refl, sym, ap, subst, _∙_}
-use lib.Dec.{lit<, lit≤}
-use lib.IntN.{ℤ}
-use lib.ListN.{length, getD, set, take, drop, replicate, length-replicate}
-use borrow.Author.Tests.{eqb-true, eqb-false, ltb-false, leb-false}
-use Rattle.base.specs.Tests.{if_then_else_, _=?_, _<?_, _≤?_, by-test, both-pass, no-fault}
+use lib.Dec.{lit≤}
+use lib.IntN.{ℤ, pos}
+use lib.ListN.{length, getD, set, replicate, length-replicate}
+use borrow.Author.Tests.{eqb-true, eqb-false, leb-false}
+use Rattle.base.specs.Tests.{if_then_else_, _=?_, _<?_, _≤?_, by-test, both-pass}
 use Rattle.base.specs.Loops.{some, some-one}
 use Rattle.machine.specs.Terms.{occurring, paused}
-use Rattle.machine.specs.Tables.{emptyDocument, newState, emptySession, parentOf, anchorAt, withValues}
-use Rattle.machine.specs.Records.{bodyFault, bodyLength, firstValueOf, entered}
-use Rattle.machine.specs.Load.{LoadResult, placeFault, orElse, recordFault, finished, loadRecords, load}
+use Rattle.machine.specs.Tables.{emptyDocument, newState, emptySession, parentOf, anchorAt, actionCount, actionAt, withValues}
+use Rattle.machine.specs.Records.{entered}
+use Rattle.machine.specs.Load.{OrFault, good, faulty, recordsEntered, placeFault, LoadResult, finished, load}
 use Rattle.machine.specs.Events.{childIn, childrenState}
-use Rattle.machine.specs.Broken.{allZero, allZeroInts, slotsZero, slotIntsZero, anchorStateIn, ruleUnusedZero, tablesObey}
+use Rattle.machine.specs.Broken.{anchorStateIn, tablesObey}
 use Rattle.machine.specs.Demand3.{number, Awake}
 use Rattle.machine.specs.declared.Document.{Document}
 use Rattle.machine.specs.declared.State.{State}
 use Rattle.machine.specs.declared.Session.{Session}
-use Rattle.machine.proofs.SoundTables.{node-passes, anchor-passes, property-passes, rule-passes, bind-passes, port-passes, link-passes, action-passes}
+use Rattle.machine.specs.declared.Record.{Record}
+use Rattle.machine.specs.declared.Record.the-variants.{Head, Node, Anchor, Property, Rule, Bind, Port, Link, Action}
+use Rattle.machine.proofs.SoundTables.{ActionPasses, node-passes, anchor-passes, property-passes, rule-passes, bind-passes, port-passes, link-passes, action-passes}
 use Rattle.machine.proofs.Keep.{chosen}
 use Rattle.machine.proofs.Tally.{oneIfAwake}
 use Rattle.machine.proofs.Shape.{Shaped, state-ends}
 use Rattle.machine.proofs.Times.{choice-same}
 use Rattle.machine.proofs.Whole.{Right, right-states, not-broken}
 use Rattle.machine.proofs.Calls.{Invariant}
-use Rattle.machine.proofs.Columns.{Column, document-ends, more-ints}
+use Rattle.machine.proofs.Columns.{Filled, Slots, document-ends, more}
 use Rattle.machine.proofs.Entries.{entries-obey}
+use Rattle.machine.proofs.Cutting.{Known, Each, RuleShaped, Faultless, and-then, cuts-known, checked-known}
 use Rattle.machine.proofs.Loading.{Loading, limit-entered, node-entered, anchor-entered, property-entered, rule-entered, bind-entered, port-entered, link-entered, action-entered}
 
 -- ---- while records are entered: of the state only the values of the properties are not as in a new session
 
 record Entering (s : Session) : Type 0 where
   document : Loading (s .document)
-  state : s .state ≡ withValues (s .state .«property_value») newState
-  values : Column allZeroInts (s .document .properties) 32 (s .state .«property_value»)
+  state : s .state ≡ withValues (s .state .properties .values) newState
+  values : Filled (pos 0) (s .document .properties) 32 (s .state .properties .values)
 
-record-entered : (kind : ℕ) (body : List ℕ) (s : Session) → kind ≤ 9 → bodyFault (s .document) kind body ≡ 0 → Entering s → Entering (entered kind body s)
-unfolding entered if_then_else_ ruleUnusedZero
-record-entered zero body s h e f = record { document = limit-entered _ (f .document) _; state = f .state; values = f .values }
-record-entered (suc zero) body s h e f = record { document = node-entered _ (f .document) _ (node-passes _ _ _ e); state = f .state; values = f .values }
-record-entered (suc (suc zero)) body s h e f = record { document = anchor-entered _ (f .document) _ (anchor-passes _ _ _ e); state = f .state; values = f .values }
-record-entered (suc (suc (suc zero))) body s h e f =
-    let n = leb-false _ _ (property-passes _ e) in
+record-entered : (r : Record) (s : Session) → Faultless (s .document) r → Entering s → Entering (entered r s)
+unfolding RuleShaped
+record-entered (Head limit) s p f = record { document = limit-entered _ (f .document) _; state = f .state; values = f .values }
+record-entered (Node r) s p f = record { document = node-entered _ (f .document) _ (node-passes _ _ _ (p .fault)); state = f .state; values = f .values }
+record-entered (Anchor r) s p f = record { document = anchor-entered _ (f .document) _ (anchor-passes _ _ _ (p .fault)); state = f .state; values = f .values }
+record-entered (Property r) s p f =
+    let n = leb-false _ _ (property-passes _ (p .fault)) in
     record {
       document = property-entered _ (f .document) n;
-      state = ap (withValues (set (s .state .«property_value») (s .document .properties) (firstValueOf body))) (f .state);
-      values = more-ints n (f .values) (firstValueOf body);
+      state = ap (withValues (set (s .state .properties .values) (s .document .properties) (r .value))) (f .state);
+      values = more (r .value) (f .values);
     }
-record-entered (suc (suc (suc (suc zero)))) body s h e f =
-    record { document = rule-entered _ (f .document) _ (record { passes = rule-passes _ _ _ e; kind = refl; unused = refl }); state = f .state; values = f .values }
-record-entered (suc (suc (suc (suc (suc zero))))) body s h e f =
-    record { document = rule-entered _ (f .document) _ (record { passes = rule-passes _ _ _ e; kind = refl; unused = refl }); state = f .state; values = f .values }
-record-entered (suc (suc (suc (suc (suc (suc zero)))))) body s h e f = record { document = bind-entered _ (f .document) _ (bind-passes _ _ _ e); state = f .state; values = f .values }
-record-entered (suc (suc (suc (suc (suc (suc (suc zero))))))) body s h e f = record { document = port-entered _ (f .document) _ (port-passes _ _ _ e); state = f .state; values = f .values }
-record-entered (suc (suc (suc (suc (suc (suc (suc (suc zero)))))))) body s h e f = record { document = link-entered _ (f .document) _ (link-passes _ _ _ e); state = f .state; values = f .values }
-record-entered (suc (suc (suc (suc (suc (suc (suc (suc (suc zero))))))))) body s h e f =
-    record { document = action-entered _ (f .document) _ (action-passes _ _ _ e); state = f .state; values = f .values }
-record-entered (suc (suc (suc (suc (suc (suc (suc (suc (suc (suc kind)))))))))) body s h e f = absurd (omega arith)
+record-entered (Rule r) s p f =
+    record { document = rule-entered _ (f .document) _ (record { passes = rule-passes _ _ _ (p .fault); kind = p .shape .0; unused = p .shape .1 }); state = f .state; values = f .values }
+record-entered (Bind r) s p f = record { document = bind-entered _ (f .document) _ (bind-passes _ _ _ (p .fault)); state = f .state; values = f .values }
+record-entered (Port r) s p f = record { document = port-entered _ (f .document) _ (port-passes _ _ _ (p .fault)); state = f .state; values = f .values }
+record-entered (Link r) s p f = record { document = link-entered _ (f .document) _ (link-passes _ _ _ (p .fault)); state = f .state; values = f .values }
+record-entered (Action r) s p f = record { document = action-entered _ (f .document) _ (action-passes _ _ _ (p .fault)); state = f .state; values = f .values }
+
+-- ---- a list of records, under any test of their place
+
+records-entered : (place : Document → Record → ℕ) (records : List (OrFault Record)) (s : Session) → Each RuleShaped records → Entering s → Known Entering (recordsEntered place records s)
+unfolding recordsEntered Known
+records-entered place [] s k f = f
+records-entered place (first ∷ rest) s k f =
+    and-then Entering _ _ (checked-known place (s .document) first (k .0))
+    (λ r p. records-entered place rest (entered r s) (k .1) (record-entered r s p f))
 
 -- ---- all records of the bytes
 
@@ -71,86 +79,39 @@ record AcceptedLoad (r : LoadResult) : Type 0 where
 abbrev IfAccepted : LoadResult → Type 0
 IfAccepted r = r .answer .refusal ≡ 0 → AcceptedLoad r
 
-finished-accepted : (s : Session) → Entering s → IfAccepted (finished s)
-unfolding finished
-finished-accepted s f =
+finished-accepted : (r : OrFault Session) → Known Entering r → IfAccepted (finished r)
+unfolding finished Known
+finished-accepted (faulty fault) k = λ e. absurd (k e)
+finished-accepted (good s) f =
     chosen IfAccepted _ (λ _ e. absurd (omega arith))
     (λ l. chosen IfAccepted _ (λ _ e. absurd (omega arith))
     (λ n e. record { entering = f; limit = omega (arith, eqb-false (s .document .limit) 0 l); root = omega (arith, eqb-false (s .document .nodes .count) 0 n) }))
 
-or-else : (fault other : ℕ) → orElse fault other ≡ 0 → other ≡ 0
-unfolding orElse if_then_else_
-or-else fault other e = by-test (fault =? 0) (λ z. rw z at e) (λ z. absurd (eqb-false fault 0 z (rw z at e)))
-
-record-right : (d : Document) (kind : ℕ) (rest : List ℕ) → recordFault d kind rest ≡ 0 → (kind ≤ 9) × (bodyFault d kind (take (bodyLength kind) rest) ≡ 0)
-unfolding recordFault
-record-right d kind rest e =
-    let a = no-fault _ 2 _ (lit< tt) e in
-    let b = no-fault _ 1 _ (lit< tt) (a .1) in
-    (ltb-false _ _ (a .0), or-else (placeFault d kind (take (bodyLength kind) rest)) _ (b .1))
-
-records-accepted : (most : ℕ) (bytes : List ℕ) (s : Session) → Entering s → IfAccepted (loadRecords most bytes s)
-unfolding loadRecords
-records-accepted zero bytes s f = finished-accepted s f
-records-accepted (suc most) [] s f = finished-accepted s f
-records-accepted (suc most) (kind ∷ rest) s f =
-    chosen IfAccepted (recordFault (s .document) kind rest =? 0)
-    (λ e. let p = record-right (s .document) kind rest (eqb-true _ _ e) in records-accepted most _ _ (record-entered kind _ s (p .0) (p .1) f))
-    (λ e r. absurd (eqb-false _ _ e r))
-
 -- ---- zeros
 
-zero-at : (n i : ℕ) → _≡_ {A = ℕ} (getD (replicate n 0) i 0) 0
+zero-at : {A : Type 0} {z : A} (n i : ℕ) → getD (replicate n z) i z ≡ z
 zero-at zero i = refl
 zero-at (suc n) zero = refl
 zero-at (suc n) (suc i) = zero-at n i
 
-zeros : {n : ℕ} (end : ℕ) → Column allZero end n (replicate n 0)
-unfolding allZero
-zeros {n} end = record { len = length-replicate n 0; ends = ends n end }
-  where
-    ends : (n end : ℕ) → allZero (drop end (replicate n 0)) ≡ true
-    ends zero zero = refl
-    ends zero (suc end) = refl
-    ends (suc n) zero = ends n zero
-    ends (suc n) (suc end) = ends n end
+zeros : {A : Type 0} {z : A} {end places : ℕ} → Filled z end places (replicate places z)
+zeros {places = places} = record { len = length-replicate places _; ends = λ i b. zero-at places i }
+
+zero-slots : {A : Type 0} {z : A} → Slots z (replicate 64 0) (replicate 512 z)
+zero-slots = record { len = refl; ends = λ k j b h. zero-at 512 (8 * k + j) }
+
+no-entry : {P : Type 0} {i : ℕ} → i < 0 → P
+no-entry h = absurd (omega arith)
 
 empty-entered : Entering emptySession
-unfolding emptySession emptyDocument newState allZeroInts slotsZero slotIntsZero allZero
+unfolding emptySession emptyDocument newState
 empty-entered =
-    record {
-      document = record {
-        columns = record {
-          nodes = (z, (z, (z, tt)));
-          anchors = (z, (z, (z, tt)));
-          rules = (z, (z, (z, (z, (z, (z, tt))))));
-          values = record { len = refl; ends = refl };
-          binds = (z, (z, (z, tt)));
-          ports = (z, (z, tt));
-          links = (z, (z, (z, (z, (z, (z, tt))))));
-          actions = record { actions = refl; targets = refl; values = refl; actions-end = refl; targets-end = refl; values-end = refl };
-        };
-        entries = record {
-          nodes = λ n h. absurd (omega arith);
-          anchors = λ n h. absurd (omega arith);
-          properties = omega arith;
-          rules = λ n h. absurd (omega arith);
-          binds = λ n h. absurd (omega arith);
-          ports = λ n h. absurd (omega arith);
-          links = λ n h. absurd (omega arith);
-          actions = λ n j h. absurd (omega arith);
-        };
-      };
-      state = refl;
-      values = record { len = refl; ends = refl };
-    }
-  where
-    z : {n : ℕ} → Column allZero 0 n (replicate n 0)
-    z = zeros 0
+    let no-action : (l j : ℕ) → l < 0 → j < actionCount (emptyDocument .links) l → ActionPasses emptyDocument j (actionAt (emptyDocument .actions) l j) = λ l j h. no-entry h in
+    record { document = record { columns = search (zeros, zero-slots); entries = search (no-entry, arith) }; state = refl; values = zeros }
 
 -- ---- a new session
 
-module _ (d : Document) (l : Loading d) (values : List ℤ) (v : Column allZeroInts (d .properties) 32 values) (limit : 0 < d .limit) (root : 0 < d .nodes .count) where
+module _ (d : Document) (l : Loading d) (values : List ℤ) (v : Filled (pos 0) (d .properties) 32 values) (limit : 0 < d .limit) (root : 0 < d .nodes .count) where
   abbrev new : State
   new = withValues values newState
 
@@ -158,10 +119,10 @@ module _ (d : Document) (l : Loading d) (values : List ℤ) (v : Column allZeroI
   obeys = entries-obey d (l .entries) limit root
 
   -- no child is awake
-  no-child : (state c : ℕ) → Awake state → some (childIn (d .nodes) (new .«node_state») state c) (d .nodes .count) ≡ false
+  no-child : (state c : ℕ) → Awake state → some (childIn (d .nodes) (new .nodes .states) state c) (d .nodes .count) ≡ false
   unfolding childIn newState
   no-child state c a =
-      let test = childIn (d .nodes) (new .«node_state») state c in
+      let test = childIn (d .nodes) (new .nodes .states) state c in
       by-test (some test (d .nodes .count))
       (λ e.
       let k = some-one test (d .nodes .count) e in
@@ -180,7 +141,7 @@ module _ (d : Document) (l : Loading d) (values : List ℤ) (v : Column allZeroI
 
   shaped : Shaped d new
   unfolding newState
-  shaped = record { nodes = (zeros _, (zeros _, (zeros _, tt))); anchors = (zeros _, (zeros _, tt)); values = v; counts = zeros _ }
+  shaped = search zeros
 
   new-invariant : Invariant [] (record { document = d; state = new })
   unfolding newState number oneIfAwake if_then_else_
@@ -197,6 +158,6 @@ module _ (d : Document) (l : Loading d) (values : List ℤ) (v : Column allZeroI
 pub loaded-invariant : (bytes : List ℕ) → load bytes .answer .refusal ≡ 0 → Invariant [] (load bytes .session)
 unfolding load
 loaded-invariant bytes e =
-    let r = records-accepted (length bytes) bytes emptySession empty-entered e in
+    let r = finished-accepted _ (records-entered placeFault _ emptySession (cuts-known (length bytes) bytes) empty-entered) e in
     let s = load bytes .session in
     subst (λ (t : State). Invariant [] (record { document = s .document; state = t })) (sym (r .entering .state)) (new-invariant (s .document) (r .entering .document) _ (r .entering .values) (r .limit) (r .root))

@@ -9,14 +9,14 @@ use borrow.Author.Tests.{eqb-true, eqb-false, ltb-true}
 use Rattle.base.specs.Tests.{if_then_else_, _=?_, both-pass}
 use Rattle.base.specs.Loops.{ascending, ascending-turns, descending-turns}
 use Rattle.machine.specs.Terms.{paused, toStart, toStop, toAbort, toSet}
-use Rattle.machine.specs.Tables.{isMedia, anchorAt, actionAt, actionCount}
+use Rattle.machine.specs.Tables.{isMedia, anchorAt}
 use Rattle.machine.specs.Events.{Run, nodeState, anchorState, nextState, withState, nodeTo, anchorTo, setProperty, follows, anchorMoved, anchorsMoved, mediaTo, mediaMoved, portStarted, contextStarted, switchStarted, startedOne, started, movedBelow, allMoved, childrenState, settledOne, settled, performed, acted}
 use Rattle.machine.specs.Tick.{withClock, anchorsPassed, passed, tickedOne, ticked, keyed}
 use Rattle.machine.specs.Chain.{firingLogged, actionRun, actionsRun, limitMet, fired, linkTried, lineTaken, linesTaken, chained}
-use Rattle.machine.specs.Operations.{key, tick}
-use Rattle.machine.specs.Sound.{Sound}
+use Rattle.machine.specs.Sound.{Applicable, Sound}
 use Rattle.machine.specs.declared.Document.{Document}
 use Rattle.machine.specs.declared.Nodes.{Nodes}
+use Rattle.machine.specs.declared.ActionRecord.{ActionRecord}
 use Rattle.machine.specs.declared.Line.{Line}
 use mathlib.Core.List.{List}
 
@@ -36,16 +36,6 @@ all-pass a b c e =
 pub children-three : (nodes : Nodes) (states : List ℕ) (c : ℕ) → childrenState nodes states c ≤ paused
 unfolding childrenState
 children-three nodes states c = chosen (λ s. s ≤ 2) _ (λ _. lit≤ tt) (λ _. chosen (λ s. s ≤ 2) _ (λ _. lit≤ tt) (λ _. lit≤ tt))
-
--- an action that is one of the six, on a target that is given
-pub record Target (d : Document) (action target : ℕ) : Type 0 where
-  pub least : toStart ≤ action
-  pub node : (action ≡ toSet → ⊥) → target < d .nodes .count
-  pub property : action ≡ toSet → target < d .properties
-
--- so is every action of a link
-pub link-target : {d : Document} (sound : Sound d) (l j : ℕ) → l < d .links .count → j < actionCount (d .links) l → Target d (actionAt (d .actions) l j .action) (actionAt (d .actions) l j .target)
-link-target sound l j h i = record { least = sound .action-least l j h i; node = sound .action-node l j h i; property = sound .action-property l j h i }
 
 module _ (d : Document) (P : Run → Type 0) where
   -- the steps that change no state
@@ -80,7 +70,7 @@ module _ (d : Document) (P : Run → Type 0) where
 
   -- the actions, each settled
   pub record Actions : Type 0 where
-    pub action : (action target : ℕ) (value : ℤ) (r : Run) → Target d action target → P r → P (acted d action target value r)
+    pub action : (a : ActionRecord) (r : Run) → Applicable d a → P r → P (acted d a r)
     pub tick : (r : Run) → P r → P (ticked d r)
     pub lines : Lines
 
@@ -144,12 +134,12 @@ module _ (d : Document) (P : Run → Type 0) where
         (λ _. chosen P _ (λ l. started-keeps levels _ r (sound .bind-child _ (ltb-true _ _ l)) p) (λ _. p))))
 
     -- an action, where it keeps the property if it sets one
-    pub moves-keep : (action target : ℕ) (value : ℤ) (r : Run) → Target d action target → (action ≡ toSet → P (setProperty target value r)) → P r → P (performed d action target value r)
+    pub moves-keep : (a : ActionRecord) (r : Run) → Applicable d a → (a .action ≡ toSet → P (setProperty (a .target) (a .value) r)) → P r → P (performed d a r)
     unfolding performed allMoved movedBelow
-    moves-keep action target value r t set p =
+    moves-keep a r t set p =
         chosen P _ (λ e. set (eqb-true _ _ e))
-        (λ e. chosen P _ (λ _. started-keeps 64 target r (t .node (eqb-false _ _ e)) p)
-        (λ _. each _ (λ n r h p. chosen P _ (λ b. k .media action n r (t .least) h (both-pass _ _ b .0) p) (λ _. p)) r p))
+        (λ e. chosen P _ (λ _. started-keeps 64 (a .target) r (t .node (eqb-false _ _ e)) p)
+        (λ _. each _ (λ n r h p. chosen P _ (λ b. k .media (a .action) n r (t .least) h (both-pass _ _ b .0) p) (λ _. p)) r p))
 
     pub media-ticked-keeps : (r : Run) → P r → P (ascending (tickedOne d) (d .nodes .count) r)
     media-ticked-keeps = each _ (k .tick)
@@ -165,13 +155,13 @@ module _ (d : Document) (P : Run → Type 0) where
     ticks-keep r p = settled-keeps _ _ _ (media-ticked-keeps r p)
 
   module _ (sound : Sound d) (k : Steps) where
-    pub performed-keeps : (action target : ℕ) (value : ℤ) (r : Run) → Target d action target → P r → P (performed d action target value r)
-    performed-keeps action target value r t p = moves-keep sound (k .moves) action target value r t (λ e. k .property target value r (t .property e) p) p
+    pub performed-keeps : (a : ActionRecord) (r : Run) → Applicable d a → P r → P (performed d a r)
+    performed-keeps a r t p = moves-keep sound (k .moves) a r t (λ e. k .property _ _ r (t .property e) p) p
 
     pub actions : Actions
     unfolding acted
     actions = record {
-      action = λ action target value r t p. settled-keeps sound (k .moves) action target _ (performed-keeps action target value r t p);
+      action = λ a r t p. settled-keeps sound (k .moves) _ _ _ (performed-keeps a r t p);
       tick = ticks-keep sound (k .moves);
       lines = k .lines;
     }
@@ -182,7 +172,7 @@ module _ (d : Document) (P : Run → Type 0) where
     fired-keeps l r h p =
         chosen P _
         (λ b. each _
-        (λ j r i p. k .action _ _ _ r (link-target sound l j h i) p)
+        (λ j r i p. chosen P _ (λ _. k .action _ r (sound .link-action l j h i) p) (λ _. p))
         _ (k .lines .firing l r (ltb-true _ _ b) p))
         (λ _. k .lines .limit r p)
 

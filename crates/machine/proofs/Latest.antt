@@ -4,6 +4,7 @@ use native.Mathlib.Omega.{arith}
 use mathlib.Core.Bool.{Bool, true, false, _&&_, true≢false, and-false}
 use mathlib.Core.List.{List, _++_}
 use mathlib.Core.Path.{_≡_, refl, sym, _∙_}
+use lib.Dec.{lit<}
 use lib.ListN.{length, getD, set, length-set}
 use borrow.Author.Tests.{eqb-true, eq-eqb, ne-eqb}
 use Rattle.base.specs.Tests.{if_then_else_, _=?_, by-test, not-true, not-false}
@@ -18,7 +19,7 @@ use Rattle.machine.specs.Sound.{Sound}
 use Rattle.machine.specs.declared.Document.{Document}
 use Rattle.machine.specs.declared.Line.{Line}
 use Rattle.machine.proofs.Keep.{Steps, pass-keeps, media-keeps, chosen, all-pass}
-use Rattle.machine.proofs.Growing.{one-more}
+use Rattle.machine.proofs.Growing.{met-stops, one-more}
 use Rattle.machine.proofs.Effects.{starting, getD-set}
 use Rattle.machine.proofs.Times.{start-awake, Follows, anchors, TimedRun, times}
 use Rattle.machine.proofs.Demand.{anchor-rule}
@@ -27,24 +28,24 @@ use Rattle.machine.proofs.Showing.{InAnchor, Shows, anchor-given, last-
 module _ (h : List Line) (d : Document) (m : ℕ) where
   -- ---- the states of the anchors, and the last of m that started
 
-  -- if all lines fitted
+  -- if nothing stops the run
   pub record IfFitted (Q : List ℕ → ℕ → Type 0) (r : Run) : Type 0 where
-    pub room : d .anchors .count ≤ length (r .state .«anchor_state»)
-    pub holds : r .log .full ≡ false → Q (r .state .«anchor_state») (lastStarted d m noId (h ++ r .log .lines))
+    pub room : d .anchors .count ≤ length (r .state .anchors .states)
+    pub holds : r .log .stop ≡ 0 → Q (r .state .anchors .states) (lastStarted d m noId (h ++ r .log .lines))
 
   module _ (Q : List ℕ → ℕ → Type 0) where
     -- one more line, with states that may have changed
-    line-kept : (l : Line) (x y : Run) → y .log ≡ logged l (x .log) → length (y .state .«anchor_state») ≡ length (x .state .«anchor_state»)
-        → ((last : ℕ) → Q (x .state .«anchor_state») last → Q (y .state .«anchor_state») (if isStartOf d m l then l .id else last)) → IfFitted Q x → IfFitted Q y
+    line-kept : (l : Line) (x y : Run) → y .log ≡ logged l (x .log) → length (y .state .anchors .states) ≡ length (x .state .anchors .states)
+        → ((last : ℕ) → Q (x .state .anchors .states) last → Q (y .state .anchors .states) (if isStartOf d m l then l .id else last)) → IfFitted Q x → IfFitted Q y
     line-kept l x y e len turn k = record {
       room = rw len (k .room);
       holds = rw e
-          (one-more h (λ ls. Q (x .state .«anchor_state») (lastStarted d m noId ls)) (λ ls. Q (y .state .«anchor_state») (lastStarted d m noId ls)) l (x .log)
+          (one-more h (λ ls. Q (x .state .anchors .states) (lastStarted d m noId ls)) (λ ls. Q (y .state .anchors .states) (lastStarted d m noId ls)) l (x .log)
           (λ ls q. rw (last-more d m noId ls l) (turn _ q)) (k .holds));
     }
 
     -- one that starts no anchor of m, with the states that there were
-    other-kept : (l : Line) (x y : Run) → isStartOf d m l ≡ false → y .log ≡ logged l (x .log) → y .state .«anchor_state» ≡ x .state .«anchor_state» → IfFitted Q x → IfFitted Q y
+    other-kept : (l : Line) (x y : Run) → isStartOf d m l ≡ false → y .log ≡ logged l (x .log) → y .state .anchors .states ≡ x .state .anchors .states → IfFitted Q x → IfFitted Q y
     unfolding if_then_else_
     other-kept l x y n e q = line-kept l x y e (rw q) (λ last k. rw (q, n) k)
 
@@ -52,7 +53,7 @@ module _ (h : List Line) (d : Document) (m : ℕ) where
     unfolding nodeTo nodeChanged isStartOf
     node-kept aborting n new r k = chosen (IfFitted Q) _ (λ _. k) (λ _. other-kept _ r _ refl refl refl k)
 
-    anchor-kept : (aborting : Bool) (a new : ℕ) (r : Run) → let states = r .state .«anchor_state» in
+    anchor-kept : (aborting : Bool) (a new : ℕ) (r : Run) → let states = r .state .anchors .states in
         ((last : ℕ) → Q states last → Q (set states a new) (if getD states a 0 =? sleeping && awake new && isAnchorOf (d .anchors) m a then a else last))
         → IfFitted Q r → IfFitted Q (anchorTo aborting a new r)
     unfolding anchorTo anchorChanged isStartOf
@@ -70,7 +71,7 @@ module _ (h : List Line) (d : Document) (m : ℕ) where
   unfolding if_then_else_
   none-starts aborting a new r i no-start k =
       anchor-kept Latest aborting a new r
-      (λ last q. rw no-start (λ b v w. q b v (λ z. w (getD-set (r .state .«anchor_state») a b new 0 (omega (arith, k .room))
+      (λ last q. rw no-start (λ b v w. q b v (λ z. w (getD-set (r .state .anchors .states) a b new 0 (omega (arith, k .room))
       ∙ by-test (a =? b) (λ e. rw e (eqb-true new 0 (not-false _ (rw (eqb-true a b e, z) at no-start)))) (λ e. rw e z)))))
       k
 
@@ -82,7 +83,7 @@ module _ (h : List Line) (d : Document) (m : ℕ) where
   none-sleeps : (aborting : Bool) (a new : ℕ) (r : Run) → a < d .anchors .count → Awake new → IfFitted LatestAwake r → IfFitted LatestAwake (anchorTo aborting a new r)
   unfolding if_then_else_
   none-sleeps aborting a new r i wakes k =
-      let states = r .state .«anchor_state» in
+      let states = r .state .anchors .states in
       let after : (b : ℕ) → getD (set states a new) b 0 ≡ (if a =? b then new else getD states b 0) = λ b. getD-set states a b new 0 (omega (arith, k .room)) in
       anchor-kept LatestAwake aborting a new r
       (λ last q. by-test (getD states a 0 =? sleeping && awake new && isAnchorOf (d .anchors) m a)
@@ -158,6 +159,6 @@ module _ (h : List Line) (d : Document) (m : ℕ) where
           lines = record {
             key = λ code r k. (t .lines .key code r (k .0), same _ r _ refl refl refl (k .1));
             firing = λ l r i k. (t .lines .firing l r i (k .0), same _ r _ refl refl refl (k .1));
-            limit = λ r k. (t .lines .limit r (k .0), record { room = k .1 .room; holds = k .1 .holds });
+            limit = λ r k. (t .lines .limit r (k .0), record { room = k .1 .room; holds = λ f. absurd (met-stops 11 (r .log) (lit< tt) f) });
           };
         }

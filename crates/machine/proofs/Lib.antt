@@ -9,12 +9,13 @@ pub mod Effects
 pub mod Times
 pub mod Settling
 pub mod Whole
+pub mod Showing
+pub mod Values
 pub mod Calls
 pub mod Entries
 pub mod Loading
+pub mod Cutting
 pub mod FirstSession
 pub mod Demand
-pub mod Showing
-pub mod Values
 pub mod Latest
 pub mod Counting

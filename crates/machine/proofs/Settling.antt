@@ -37,13 +37,13 @@ children-same nodes states other c h =
         (λ e. rw e)
 
 pub record Composed (d : Document) (s : State) : Type 0 where
-  pub rule : (c : ℕ) → c < d .nodes .count → isMedia (d .nodes) c ≡ false → nodeState s c ≡ childrenState (d .nodes) (s .«node_state») c
+  pub rule : (c : ℕ) → c < d .nodes .count → isMedia (d .nodes) c ≡ false → nodeState s c ≡ childrenState (d .nodes) (s .nodes .states) c
 
 module _ (d : Document) (sound : Sound d) where
   -- settled down to k
   record From (k : ℕ) (y : Run) : Type 0 where
     shaped : Shaped d (y .state)
-    rule : (c : ℕ) → k ≤ c → c < d .nodes .count → isMedia (d .nodes) c ≡ false → nodeState (y .state) c ≡ childrenState (d .nodes) (y .state .«node_state») c
+    rule : (c : ℕ) → k ≤ c → c < d .nodes .count → isMedia (d .nodes) c ≡ false → nodeState (y .state) c ≡ childrenState (d .nodes) (y .state .nodes .states) c
 
   one-settled : (action target k : ℕ) (y : Run) → k < d .nodes .count → From (suc k) y → From k (settledOne (d .nodes) action target k y)
   unfolding settledOne
@@ -56,10 +56,10 @@ module _ (d : Document) (sound : Sound d) where
             f .rule c (omega (arith, other)) cn u;
       })
       (λ _.
-      let new = childrenState (d .nodes) (y .state .«node_state») k in
+      let new = childrenState (d .nodes) (y .state .nodes .states) k in
       let aborting = abortsAt (d .nodes) action target k in
       let m = node-moves aborting k new y (omega (arith, sound .nodes .few, f .shaped .nodes .0 .len)) (omega (arith, sound .nodes .few, f .shaped .nodes .1 .0 .len)) in
-      let children : (c : ℕ) → k ≤ c → c < d .nodes .count → childrenState (d .nodes) (nodeTo aborting k new y .state .«node_state») c ≡ childrenState (d .nodes) (y .state .«node_state») c
+      let children : (c : ℕ) → k ≤ c → c < d .nodes .count → childrenState (d .nodes) (nodeTo aborting k new y .state .nodes .states) c ≡ childrenState (d .nodes) (y .state .nodes .states) c
       = λ c kc cn. children-same (d .nodes) _ _ c (λ i il e. m .only .state i (λ q. omega (arith, child-later (sound .nodes) il cn e))) in
       record {
         shaped = shapes d .moves .node aborting k new y l (f .shaped);
@@ -84,9 +84,9 @@ module _ (d : Document) (sound : Sound d) where
   pub rights : Actions d RightRun
   unfolding acted ticked keyed firingLogged limitMet
   rights = record {
-    action = λ action target value r t p. record {
-      timed = timed-actions .action action target value r t (p .timed);
-      composed = settled-composes action target _ (performed-keeps d (TimedRun d sound) sound (times d sound) action target value r t (p .timed) .shaped);
+    action = λ a r t p. record {
+      timed = timed-actions .action a r t (p .timed);
+      composed = settled-composes _ _ _ (performed-keeps d (TimedRun d sound) sound (times d sound) a r t (p .timed) .shaped);
     };
     tick = λ r p. record {
       timed = timed-actions .tick r (p .timed);

@@ -8,12 +8,12 @@ use lib.Dec.{lit<}
 use borrow.Author.Tests.{eqb-true, eqb-false, eq-eqb, ne-eqb, ltb-true, leb-true, leb-false, not-true, not-false}
 use Rattle.base.specs.Tests.{if_then_else_, _=?_, _<?_, _≤?_, by-test, both-pass, one-passes, no-fault}
 use Rattle.base.specs.Loops.{every, every-each}
-use Rattle.machine.specs.Terms.{context, media, switch, toStart, toSet, noId}
+use Rattle.machine.specs.Terms.{context, media, switch, toSet, simpleRule, compositeRule, noId}
 use Rattle.machine.specs.Tables.{typeOf, parentOf, durationOf, isMedia, given, nodeAt, anchorAt, ruleAt, bindAt, portAt, linkAt, actionCount, actionAt}
 use Rattle.machine.specs.Records.{nodeFieldsRight, parentRight, nodeFault, anchorFault, propertyFault, simpleRuleFault, compositeRuleFault, ruleFault, bindFault, portFault, linkFault, actionRight, targetGiven, actionFault, subjectGiven, transitionRight, isDefault, isPort}
 use Rattle.base.specs.Loops.{some}
 use Rattle.machine.specs.Broken.{nodeObeys, anchorObeys, propertyObeys, ruleObeys, bindObeys, portObeys, actionObeys, linkObeys, tablesObey, ruleUnusedZero}
-use Rattle.machine.specs.Sound.{SoundNodes, SoundRules, Sound}
+use Rattle.machine.specs.Sound.{SoundNodes, SoundRules, Applicable, Sound}
 use Rattle.machine.specs.declared.Nodes.{Nodes}
 use Rattle.machine.specs.declared.Document.{Document}
 use Rattle.machine.specs.declared.NodeRecord.{NodeRecord}
@@ -58,8 +58,8 @@ property-passes id e = no-fault _ 4 _ (lit< tt) e .0
 
 pub record RulePasses (properties id : ℕ) (r : RuleRecord) : Type 0 where
   pub few : 32 ≤? id ≡ false
-  pub simple : r .kind =? 4 ≡ true → (5 <? r .comparator ≡ false) × (r .property <? properties ≡ true)
-  pub composite : r .kind =? 4 ≡ false → (1 <? r .operator ≡ false) × (r .left <? id && r .right <? id ≡ true)
+  pub simple : r .kind =? simpleRule ≡ true → (5 <? r .comparator ≡ false) × (r .property <? properties ≡ true)
+  pub composite : r .kind =? simpleRule ≡ false → (1 <? r .operator ≡ false) × (r .left <? id && r .right <? id ≡ true)
 
 pub rule-passes : (properties id : ℕ) (r : RuleRecord) → ruleFault properties id r ≡ 0 → RulePasses properties id r
 unfolding ruleFault simpleRuleFault compositeRuleFault if_then_else_
@@ -127,7 +127,7 @@ action-passes d id r e =
 
 pub record RuleEntry (properties id : ℕ) (r : RuleRecord) : Type 0 where
   pub passes : RulePasses properties id r
-  pub kind : (r .kind =? 4 || r .kind =? 5) ≡ true
+  pub kind : (r .kind =? simpleRule || r .kind =? compositeRule) ≡ true
   pub unused : ruleUnusedZero r ≡ true
 
 pub record Entries (d e : Document) : Type 0 where
@@ -149,8 +149,8 @@ rule-obeys : (d : Document) (i : ℕ) → ruleObeys d i ≡ true → RuleEntry (
 unfolding ruleObeys
 rule-obeys d i e =
     let r = ruleAt (d .rules) i in
-    let p = both-pass ((r .kind =? 4 || r .kind =? 5) && ruleFault (d .properties) i r =? 0) (ruleUnusedZero r) e in
-    let q = both-pass (r .kind =? 4 || r .kind =? 5) _ (p .0) in
+    let p = both-pass ((r .kind =? simpleRule || r .kind =? compositeRule) && ruleFault (d .properties) i r =? 0) (ruleUnusedZero r) e in
+    let q = both-pass (r .kind =? simpleRule || r .kind =? compositeRule) _ (p .0) in
     record { passes = rule-passes _ _ _ (eqb-true _ _ (q .1)); kind = q .0; unused = p .1 }
 
 link-obeys : (d : Document) (l : ℕ) → linkObeys d l ≡ true
@@ -218,7 +218,7 @@ module _ (d : Document) (o : Obeyed d) where
       (ltb-true _ _ (p .0), not-true _ (p .1))
 
   record Fields (n : ℕ) : Type 0 where
-    type : typeOf (d .nodes) n ≤ 2
+    type : typeOf (d .nodes) n ≤ switch
     duration : (isMedia (d .nodes) n || durationOf (d .nodes) n =? 0) ≡ true
     root : n ≡ 0 → parentOf (d .nodes) n ≡ noId
 
@@ -240,7 +240,7 @@ module _ (d : Document) (o : Obeyed d) where
     endless = λ n h c. ⊎-elim (λ e. absurd (true≢false (sym e ∙ c))) (λ e. eqb-true _ _ e) (one-passes _ _ (fields-of n h .duration));
   }
 
-  earlier-rules : (i : ℕ) → i < d .rules .count → (ruleAt (d .rules) i .kind ≡ 4 → ⊥) → (ruleAt (d .rules) i .left < i) × (ruleAt (d .rules) i .right < i)
+  earlier-rules : (i : ℕ) → i < d .rules .count → (ruleAt (d .rules) i .kind ≡ simpleRule → ⊥) → (ruleAt (d .rules) i .left < i) × (ruleAt (d .rules) i .right < i)
   earlier-rules i h k = let p = both-pass _ _ (t .rules i h .passes .composite (ne-eqb _ _ k) .1) in (ltb-true _ _ (p .0), ltb-true _ _ (p .1))
 
   sound-rules : SoundRules (d .properties) (d .rules)
@@ -282,24 +282,17 @@ module _ (d : Document) (o : Obeyed d) where
       let r = linkAt (d .links) l in
       or-none _ _ (both-pass (given (d .nodes) context (r .owner) && subjectGiven d (r .class) (r .subject)) _ (t .links l h .ids) .1)
 
-  action-range : (l j : ℕ) → l < d .links .count → j < actionCount (d .links) l → (toStart ≤ actionAt (d .actions) l j .action) × (actionAt (d .actions) l j .action ≤ toSet)
-  unfolding actionRight
-  action-range l j h k =
-      let p = both-pass _ _ (t .actions l j h k .fields) in
-      let q = both-pass _ _ (p .0) in
-      (leb-true _ _ (q .0), leb-true _ _ (q .1))
-
-  action-target : (l j : ℕ) → l < d .links .count → j < actionCount (d .links) l → targetGiven d (actionAt (d .actions) l j .action) (actionAt (d .actions) l j .target) ≡ true
-  action-target l j h k = both-pass (1 ≤? d .links .count) _ (t .actions l j h k .ids) .1
-
--- what a given target says
-pub target-node : (d : Document) (action target : ℕ) → targetGiven d action target ≡ true → (action ≡ toSet → ⊥) → target < d .nodes .count
-unfolding targetGiven if_then_else_
-target-node d action target e h = ltb-true _ _ (rw (ne-eqb action toSet h) at e)
-
-pub target-property : (d : Document) (action target : ℕ) → targetGiven d action target ≡ true → action ≡ toSet → target < d .properties
-unfolding targetGiven if_then_else_
-target-property d action target e h = ltb-true _ _ (rw (eq-eqb action toSet h) at e)
+-- an action of a link, or of a command, that passes its two tests
+pub applicable : (d : Document) (a : ActionRecord) → actionRight (a .action) (a .value) ≡ true → targetGiven d (a .action) (a .target) ≡ true → Applicable d a
+unfolding actionRight targetGiven if_then_else_
+applicable d a right given =
+    let range = both-pass _ _ (both-pass _ _ right .0) in
+    record {
+      least = leb-true _ _ (range .0);
+      most = leb-true _ _ (range .1);
+      node = λ n. ltb-true _ _ (rw (ne-eqb (a .action) toSet n) at given);
+      property = λ e. ltb-true _ _ (rw (eq-eqb (a .action) toSet e) at given);
+    }
 
 pub sound : (d : Document) → tablesObey d ≡ true → Sound d
 sound d e =
@@ -325,8 +318,5 @@ sound d e =
       links = few (d .links .count) 64 (λ i h. t .links i h .few);
       link-guard = link-guard d o;
       actions = λ l h. few (actionCount (d .links) l) 8 (λ j k. t .actions l j h k .few);
-      action-least = λ l j h k. action-range d o l j h k .0;
-      action-most = λ l j h k. action-range d o l j h k .1;
-      action-node = λ l j h k. target-node d _ _ (action-target d o l j h k);
-      action-property = λ l j h k. target-property d _ _ (action-target d o l j h k);
+      link-action = λ l j h k. applicable d _ (t .actions l j h k .fields) (both-pass (1 ≤? d .links .count) _ (t .actions l j h k .ids) .1);
     }

@@ -6,6 +6,7 @@ use mathlib.Core.Bool.{Bool, false, and-false}
 use mathlib.Core.List.{List, [], _∷_, _++_}
 use mathlib.Core.Path.{_≡_, refl, sym, _∙_}
 use lib.IntN.{ℤ}
+use lib.Dec.{lit<}
 use lib.Seq.{getD-set-same, getD-set-other}
 use borrow.Author.Tests.{eqb-true, eqb-false, eq-eqb, ne-eqb}
 use Rattle.base.specs.Tests.{if_then_else_, _=?_, by-test}
@@ -21,7 +22,7 @@ use Rattle.machine.specs.declared.State.{State}
 use Rattle.machine.specs.declared.Line.{Line}
 use Rattle.machine.proofs.Keep.{Primitives}
 use Rattle.machine.proofs.Shape.{Shaped, shapes}
-use Rattle.machine.proofs.Growing.{one-more}
+use Rattle.machine.proofs.Growing.{met-stops, one-more}
 
 unfoldable pub oneIf : Bool → ℕ
 oneIf b = if b then 1 else 0
@@ -100,9 +101,9 @@ pub record Tallied (d : Document) (s : State) (ls : List Line) : Type 0 where
 
 -- after the lines h of the calls before
 module _ (h : List Line) (d : Document) (sound : Sound d) where
-  -- if all lines fitted
+  -- if nothing stops the run
   abbrev pub TalliedRun : Run → Type 0
-  TalliedRun r = Shaped d (r .state) × (r .log .full ≡ false → Tallied d (r .state) (h ++ r .log .lines))
+  TalliedRun r = Shaped d (r .state) × (r .log .stop ≡ 0 → Tallied d (r .state) (h ++ r .log .lines))
 
   -- the line of a key or of a firing
   tallied-still : (s : State) (l : Line) → ((i t : ℕ) → isLine ofNode i t l ≡ false) → ((i t : ℕ) → isLine ofAnchor i t l ≡ false) → ((i t : ℕ) → isLine ofProperty i t l ≡ false)
@@ -118,11 +119,11 @@ module _ (h : List Line) (d : Document) (sound : Sound d) where
   unfolding isLine
   node-moved aborting n new clock s k p ls t = record {
     nodes = λ i l. by-test (i =? n)
-        (λ q. rw (eqb-true i n q, getD-set-same (s .«node_state») n new 0 (omega (arith, sound .nodes .few, p .nodes .0 .len)), getD-set-same (s .«node_count») n _ 0 (omega (arith, sound .nodes .few, p .nodes .1 .1 .0 .len)))
+        (λ q. rw (eqb-true i n q, getD-set-same (s .nodes .states) n new 0 (omega (arith, sound .nodes .few, p .nodes .0 .len)), getD-set-same (s .nodes .counts) n _ 0 (omega (arith, sound .nodes .few, p .nodes .1 .1 .0 .len)))
         (tallied-moved (t .nodes n k) aborting new))
         (λ q.
         let e = eqb-false i n q in
-        rw (getD-set-other (s .«node_state») n i new 0 e, getD-set-other (s .«node_count») n i _ 0 e) (tallied-same (t .nodes i l) _ (λ c. isLine-other ofNode n c i _ e)));
+        rw (getD-set-other (s .nodes .states) n i new 0 e, getD-set-other (s .nodes .counts) n i _ 0 e) (tallied-same (t .nodes i l) _ (λ c. isLine-other ofNode n c i _ e)));
     anchors = λ i l. tallied-same (t .anchors i l) _ (λ _. refl);
     properties = λ i l. tallied-same (t .properties i l) _ (λ _. refl);
   }
@@ -133,11 +134,11 @@ module _ (h : List Line) (d : Document) (sound : Sound d) where
   anchor-moved aborting a new s k p ls t = record {
     nodes = λ i l. tallied-same (t .nodes i l) _ (λ _. refl);
     anchors = λ i l. by-test (i =? a)
-        (λ q. rw (eqb-true i a q, getD-set-same (s .«anchor_state») a new 0 (omega (arith, sound .anchors, p .anchors .0 .len)), getD-set-same (s .«anchor_count») a _ 0 (omega (arith, sound .anchors, p .anchors .1 .0 .len)))
+        (λ q. rw (eqb-true i a q, getD-set-same (s .anchors .states) a new 0 (omega (arith, sound .anchors, p .anchors .0 .len)), getD-set-same (s .anchors .counts) a _ 0 (omega (arith, sound .anchors, p .anchors .1 .0 .len)))
         (tallied-moved (t .anchors a k) aborting new))
         (λ q.
         let e = eqb-false i a q in
-        rw (getD-set-other (s .«anchor_state») a i new 0 e, getD-set-other (s .«anchor_count») a i _ 0 e) (tallied-same (t .anchors i l) _ (λ c. isLine-other ofAnchor a c i _ e)));
+        rw (getD-set-other (s .anchors .states) a i new 0 e, getD-set-other (s .anchors .counts) a i _ 0 e) (tallied-same (t .anchors i l) _ (λ c. isLine-other ofAnchor a c i _ e)));
     properties = λ i l. tallied-same (t .properties i l) _ (λ _. refl);
   }
 
@@ -149,11 +150,11 @@ module _ (h : List Line) (d : Document) (sound : Sound d) where
     nodes = λ i l. tallied-same (tallied-same (t .nodes i l) _ (λ _. refl)) _ (λ _. refl);
     anchors = λ i l. tallied-same (tallied-same (t .anchors i l) _ (λ _. refl)) _ (λ _. refl);
     properties = λ i l. by-test (i =? p)
-        (λ q. rw (eqb-true i p q, getD-set-same (s .«property_count») p _ 0 (omega (arith, sound .properties, w .counts .len)))
+        (λ q. rw (eqb-true i p q, getD-set-same (s .properties .counts) p _ 0 (omega (arith, sound .properties, w .properties .1 .0 .len)))
         (tallied-moved (tallied-moved (t .properties p k) false occurring) false sleeping))
         (λ q.
         let e = eqb-false i p q in
-        rw (getD-set-other (s .«property_count») p i _ 0 e)
+        rw (getD-set-other (s .properties .counts) p i _ 0 e)
         (tallied-same (tallied-same (t .properties i l) _ (λ c. isLine-other ofProperty p c i _ e)) _ (λ c. isLine-other ofProperty p c i _ e)));
   }
 
@@ -181,6 +182,6 @@ module _ (h : List Line) (d : Document) (sound : Sound d) where
     lines = record {
       key = λ code r p. (p .0, one-more h (Tallied d (r .state)) (Tallied d (r .state)) _ (r .log) (tallied-still _ _ (λ _ _. refl) (λ _ _. refl) (λ _ _. refl)) (p .1));
       firing = λ l r _ p. (p .0, one-more h (Tallied d (r .state)) (Tallied d (r .state)) _ (r .log) (tallied-still _ _ (λ _ _. refl) (λ _ _. refl) (λ _ _. refl)) (p .1));
-      limit = λ r p. p;
+      limit = λ r p. (p .0, λ f. absurd (met-stops 11 (r .log) (lit< tt) f));
     };
   }

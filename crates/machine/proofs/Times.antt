@@ -169,13 +169,13 @@ module _ (d : Document) (sound : Sound d) where
     anchors : (a : ℕ) → a < d .anchors .count → anchorState (y .state) a ≡ (if moving d (follows action) n x a then new else anchorState (x .state) a)
 
   module _ (action n new : ℕ) (x : Run) (h : n < d .nodes .count) (p : Shaped d (x .state)) where
-    room : d .anchors .count ≤ length (x .state .«anchor_state»)
+    room : d .anchors .count ≤ length (x .state .anchors .states)
     room = omega (arith, sound .anchors, p .anchors .0 .len)
 
-    states-room : n < length (x .state .«node_state»)
+    states-room : n < length (x .state .nodes .states)
     states-room = omega (arith, sound .nodes .few, p .nodes .0 .len)
 
-    clocks-room : n < length (x .state .«node_clock»)
+    clocks-room : n < length (x .state .nodes .clocks)
     clocks-room = omega (arith, sound .nodes .few, p .nodes .1 .0 .len)
 
     moves : Moved action n new x (mediaTo (d .anchors) action n new x)
@@ -280,17 +280,17 @@ module _ (d : Document) (sound : Sound d) where
     unfolding anchorsPassed
     begun = anchors-pass d (beginsAt next) n false occurring y (rw (ended .len) (room 0 n 0 r h s))
 
-    states-same : z .state .«node_state» ≡ r .state .«node_state»
+    states-same : z .state .nodes .states ≡ r .state .nodes .states
     states-same = begun .states ∙ ended .states
 
-    clocks-next : z .state .«node_clock» ≡ set (r .state .«node_clock») n next
+    clocks-next : z .state .nodes .clocks ≡ set (r .state .nodes .clocks) n next
     clocks-next = begun .clocks ∙ ended .clocks
 
     only : RunOnly n r z
-    only = record { state = λ j u. rw states-same; clock = λ j u. rw clocks-next (getD-set-other (r .state .«node_clock») n j next 0 u) }
+    only = record { state = λ j u. rw states-same; clock = λ j u. rw clocks-next (getD-set-other (r .state .nodes .clocks) n j next 0 u) }
 
     clock-here : nodeClock (z .state) n ≡ next
-    clock-here = rw clocks-next (getD-set-same (r .state .«node_clock») n next 0 (clocks-room 0 n 0 r h s))
+    clock-here = rw clocks-next (getD-set-same (r .state .nodes .clocks) n next 0 (clocks-room 0 n 0 r h s))
 
     own-anchor : (a : ℕ) → a < d .anchors .count → owner a ≡ n → Follows d (z .state) a
     unfolding anchorStateIn moving beginsAt endsAt if_then_else_

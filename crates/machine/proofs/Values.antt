@@ -1,27 +1,29 @@
 -- The values of the properties: what actions do to them; and in the chain, after lines were taken, p has the count of the last start among them.
-use Prim.Native.Nat.{ℕ, _+_, _<_, _≤_}
+use Prim.Native.Nat.{ℕ, suc, _+_, _<_, _≤_}
 use native.Mathlib.Omega.{arith}
-use mathlib.Core.Bool.{Bool, true, false, not, _&&_, true≢false}
+use mathlib.Core.Bool.{Bool, true, false, _&&_, true≢false}
 use mathlib.Core.List.{List, [], _∷_, _++_}
 use mathlib.Core.Path.{_≡_, refl, sym, _∙_}
 use lib.IntN.{ℤ}
+use lib.Dec.{lit<}
 use lib.ListN.{length}
 use borrow.Author.Tests.{eqb-true, eqb-false, eq-eqb, ne-eqb}
-use Rattle.base.specs.Tests.{if_then_else_, _=?_, by-test, both-pass, pass-both, not-true}
+use Rattle.base.specs.Tests.{if_then_else_, _=?_, by-test, both-pass, pass-both}
 use Rattle.base.specs.Loops.{ascending, ascending-idle, ascending-turns}
 use Rattle.machine.specs.Terms.{toSet, starts, ofAnchor, noId}
 use Rattle.machine.specs.Tables.{linkAt, actionAt, actionCount}
 use Rattle.machine.specs.Deciding.{guardHolds}
 use Rattle.machine.specs.Events.{Run, nodeChanged, nodeTo, anchorChanged, anchorTo, setProperty, performed, acted}
 use Rattle.machine.specs.Tick.{ticked}
-use Rattle.machine.specs.Chain.{fires, firingLogged, actionRun, actionsRun, limitMet, fired, linkTried, lineTaken, chained}
+use Rattle.machine.specs.Chain.{fires, firingLogged, goesOn, actionRun, actionsRun, limitMet, fired, linkTried, lineTaken, chained}
 use Rattle.machine.specs.Counts.{isAnchorOf, setsIn, isCountLink, isCountLinkOf, isCountLinkIn, countLink, countAction, countOf, isStartOf, lastCount, valueOf}
-use Rattle.machine.specs.Sound.{Sound}
+use Rattle.machine.specs.Sound.{Applicable, Sound}
 use Rattle.machine.specs.declared.Document.{Document}
+use Rattle.machine.specs.declared.ActionRecord.{ActionRecord}
 use Rattle.machine.specs.declared.Line.{Line}
-use Rattle.machine.proofs.Keep.{Target, link-target, NodeMoves, Actions, moved, moves-keep, settled-keeps, ticks-keep, steps, actions, link-keeps, line-keeps, chosen, all-pass}
+use Rattle.machine.proofs.Keep.{NodeMoves, Actions, moved, moves-keep, settled-keeps, ticks-keep, steps, actions, link-keeps, line-keeps, chosen, all-pass}
 use Rattle.machine.proofs.Shape.{ShapedRun, shapes}
-use Rattle.machine.proofs.Growing.{chained-turns}
+use Rattle.machine.proofs.Growing.{met-stops, chained-turns}
 use Rattle.machine.proofs.Effects.{getD-set}
 use Rattle.machine.proofs.Showing.{Shows, anchor-given, last-more}
 
@@ -60,17 +62,17 @@ module _ (d : Document) (sound : Sound d) (p : ℕ) where
     clock = λ n clock r _ k. k;
   })
 
-  module _ (action target : ℕ) (value : ℤ) (r : Run) (t : Target d action target) (s : ShapedRun d r) where
-    performed-value : valueOf (performed d action target value r .state) p ≡ (if action =? toSet && target =? p then value else valueOf (r .state) p)
+  module _ (a : ActionRecord) (r : Run) (t : Applicable d a) (s : ShapedRun d r) where
+    performed-value : valueOf (performed d a r .state) p ≡ (if a .action =? toSet && a .target =? p then a .value else valueOf (r .state) p)
     unfolding performed setProperty if_then_else_
     performed-value =
-        by-test (action =? toSet)
-        (λ e. rw e (getD-set (r .state .«property_value») target p value _ (omega (arith, sound .properties, s .values .len, t .property (eqb-true action toSet e)))))
-        (λ e. moves-keep d (ValueIs (valueOf (r .state) p)) sound (values-kept _) action target value r t (λ q. absurd (eqb-false _ _ e q)) refl ∙ rw e)
+        by-test (a .action =? toSet)
+        (λ e. rw e (getD-set (r .state .properties .values) (a .target) p (a .value) _ (omega (arith, sound .properties, s .properties .0 .len, t .property (eqb-true (a .action) toSet e)))))
+        (λ e. moves-keep d (ValueIs (valueOf (r .state) p)) sound (values-kept _) a r t (λ q. absurd (eqb-false _ _ e q)) refl ∙ rw e)
 
-    pub acted-value : valueOf (acted d action target value r .state) p ≡ (if action =? toSet && target =? p then value else valueOf (r .state) p)
+    pub acted-value : valueOf (acted d a r .state) p ≡ (if a .action =? toSet && a .target =? p then a .value else valueOf (r .state) p)
     unfolding acted
-    acted-value = settled-keeps d (ValueIs _) sound (values-kept _) action target _ performed-value
+    acted-value = settled-keeps d (ValueIs _) sound (values-kept _) _ _ _ performed-value
 
   pub ticked-value : (r : Run) → valueOf (ticked d r .state) p ≡ valueOf (r .state) p
   ticked-value r = ticks-keep d (ValueIs _) sound (values-kept _) r refl
@@ -82,11 +84,15 @@ module _ (d : Document) (sound : Sound d) (p : ℕ) where
   abbrev actionsValue : ℕ → ℕ → ℤ → ℤ
   actionsValue l n v = loopValue (setsIn d p l) (λ j. actionAt (d .actions) l j .value) n v
 
-  actions-value : (l : ℕ) (r : Run) → l < d .links .count → ShapedRun d r → valueOf (actionsRun d l r .state) p ≡ actionsValue l (actionCount (d .links) l) (valueOf (r .state) p)
-  unfolding actionsRun actionRun setsIn ascending
+  actions-value : (l : ℕ) (r : Run) → l < d .links .count → ShapedRun d r → actionsRun d l r .log .stop ≡ 0
+      → valueOf (actionsRun d l r .state) p ≡ actionsValue l (actionCount (d .links) l) (valueOf (r .state) p)
+  unfolding actionsRun actionRun goesOn setsIn ascending
   actions-value l r h s =
-      ascending-turns (λ j (y : Run). ShapedRun d y × (valueOf (y .state) p ≡ actionsValue l j (valueOf (r .state) p))) {step = actionRun d l} _ r (s, refl)
-      (λ j y i k. let t = link-target sound l j h i in (shape-kept .action _ _ _ y t (k .0), rw (← k .1) (acted-value _ _ _ y t (k .0))))
+      let After : ℕ → Run → Type 0 = λ j y. ShapedRun d y × (y .log .stop ≡ 0 → valueOf (y .state) p ≡ actionsValue l j (valueOf (r .state) p)) in
+      ascending-turns After {step = actionRun d l} _ r (s, λ _. refl)
+      (λ j y i k. let t = sound .link-action l j h i in chosen (After (suc j)) (goesOn y)
+      (λ e. (shape-kept .action _ y t (k .0), λ _. rw (← k .1 (eqb-true _ _ e)) (acted-value _ y t (k .0))))
+      (λ e. (k .0, λ f. absurd (eqb-false _ _ e f))))
       .1
 
   -- ---- a line: the count link of an anchor's start fires, and no other link sets p
@@ -125,48 +131,48 @@ module _ (d : Document) (sound : Sound d) (p : ℕ) where
     abbrev countOfLink : ℕ → ℤ
     countOfLink l = actionAt (d .actions) l (countAction d p l) .value
 
-    module _ (x : Line) (v : ℤ) (l : ℕ) (y : Run) (h : l < d .links .count) (k : ShapedRun d y) (q : y .limited ≡ false → valueOf (y .state) p ≡ v) where
+    module _ (x : Line) (v : ℤ) (l : ℕ) (y : Run) (h : l < d .links .count) (k : ShapedRun d y) (q : y .log .stop ≡ 0 → valueOf (y .state) p ≡ v) where
       -- what p has after link l was tried on line x
       abbrev tried : ℤ
       tried = if setsCount x l then countOfLink l else v
 
-      fired-value : matches x l ≡ true → y .limited ≡ false → valueOf (actionsRun d l (firingLogged l y) .state) p ≡ tried
+      abbrev Tried : Run → Type 0
+      Tried z = z .log .stop ≡ 0 → valueOf (z .state) p ≡ tried
+
+      fired-value : matches x l ≡ true → y .log .stop ≡ 0 → Tried (actionsRun d l (firingLogged l y))
       unfolding firingLogged countAction if_then_else_
-      fired-value on f =
-          actions-value l (firingLogged l y) h k
+      fired-value on f done =
+          actions-value l (firingLogged l y) h k done
           ∙ by-test (isCountLinkIn d m p l)
           (λ c. let one = showing .action l h c in rw (on, c) (one-sets (setsIn d p l) _ _ _ _ (one .below) (one .passes) (one .only)))
           (λ c. rw (on, c) (none-sets (setsIn d p l) _ _ _ (showing .other l h c) ∙ q f))
 
-      idle-value : fires d (y .state .«property_value») x l ≡ false → y .limited ≡ false → valueOf (y .state) p ≡ tried
+      idle-value : fires d (y .state .properties .values) x l ≡ false → Tried y
       unfolding fires guardHolds if_then_else_
       idle-value e f =
           by-test (setsCount x l)
           (λ c. let b = both-pass (matches x l) _ c in absurd (true≢false (sym (pass-both _ _ (b .0) (rw (showing .unguarded l h (b .1)))) ∙ e)))
           (λ c. rw c (q f))
 
-      abbrev Tried : Run → Type 0
-      Tried z = z .limited ≡ false → valueOf (z .state) p ≡ tried
-
       link-value : Tried (linkTried d x l y)
-      unfolding linkTried fired limitMet fires
+      unfolding linkTried goesOn fired limitMet fires
       link-value =
-          chosen Tried (not (y .limited) && fires d (y .state .«property_value») x l)
+          chosen Tried (goesOn y && fires d (y .state .properties .values) x l)
           (λ e.
-          let b = both-pass (not (y .limited)) _ e in
-          chosen Tried _ (λ _ _. fired-value (both-pass (matches x l) _ (b .1) .0) (not-true _ (b .0))) (λ _ f. absurd (true≢false f)))
+          let b = both-pass (goesOn y) _ e in
+          chosen Tried _ (λ _. fired-value (both-pass (matches x l) _ (b .1) .0) (eqb-true _ _ (b .0))) (λ _ f. absurd (met-stops 11 (y .log) (lit< tt) f)))
           (λ e f. idle-value (rw f at e) f)
 
     -- ---- the lines: p has the count of the last start among those that were taken
 
     abbrev HasLastCount : ℤ → List Line → Run → Type 0
-    HasLastCount before ls r = r .limited ≡ false → valueOf (r .state) p ≡ lastCount d m p before ls
+    HasLastCount before ls r = r .log .stop ≡ 0 → valueOf (r .state) p ≡ lastCount d m p before ls
 
     line-value : (before : ℤ) (ls : List Line) (x : Line) (r : Run) → ShapedRun d r → HasLastCount before ls r → HasLastCount before (ls ++ (x ∷ [])) (lineTaken d x r)
     unfolding lineTaken lastCount countOf countLink isStartOf ascending if_then_else_
     line-value before ls x r k q f =
         let v = lastCount d m p before ls in
-        ascending-turns (λ l (y : Run). ShapedRun d y × (y .limited ≡ false → valueOf (y .state) p ≡ loopValue (setsCount x) countOfLink l v)) (d .links .count) r
+        ascending-turns (λ l (y : Run). ShapedRun d y × (y .log .stop ≡ 0 → valueOf (y .state) p ≡ loopValue (setsCount x) countOfLink l v)) (d .links .count) r
         (k, q)
         (λ l y h w. (link-keeps d _ sound shape-kept x l y h (w .0), link-value x _ l y h (w .0) (w .1)))
         .1 f
@@ -180,5 +186,5 @@ module _ (d : Document) (sound : Sound d) (p : ℕ) where
         (λ e. rw e (none-sets (setsCount x) countOfLink (d .links .count) v (λ l h. by-test (setsCount x l) (λ t. absurd (true≢false (sym (sets-start x l t .0) ∙ e))) (λ t. t)))))
 
     pub chained-value : (before : ℤ) (h : List Line) (r : Run) → ShapedRun d r → length (r .log .lines) ≤ r .log .room → HasLastCount before h r → HasLastCount before (h ++ chained d r .log .lines) (chained d r)
-    chained-value before h r shaped fits q =
-        chained-turns d sound (λ ls r. ShapedRun d r × HasLastCount before ls r) (λ ls x r k. (line-keeps d _ sound shape-kept x r (k .0), line-value before ls x r (k .0) (k .1))) h r fits (shaped, q) .1
+    chained-value before h r shaped fits q f =
+        chained-turns d sound (λ ls r. ShapedRun d r × HasLastCount before ls r) (λ ls x r k. (line-keeps d _ sound shape-kept x r (k .0), line-value before ls x r (k .0) (k .1))) h r fits (shaped, q) f .1 f

@@ -9,7 +9,7 @@ use Rattle.base.specs.Tests.{if_then_else_, _=?_, _<?_, by-test, both-pass, pas
 use Rattle.base.specs.Loops.{every, every-each, each-every}
 use Rattle.machine.specs.Tables.{isMedia, durationOf}
 use Rattle.machine.specs.Events.{nodeState, nodeClock, awake, childrenState}
-use Rattle.machine.specs.Broken.{tablesObey, documentEndsZero, stateEndsZero, compositeRule, clockRight, nodeRight, anchorRight, statesRight, broken}
+use Rattle.machine.specs.Broken.{tablesObey, documentEndsZero, stateEndsZero, compositeRight, clockRight, nodeRight, anchorRight, statesRight, broken}
 use Rattle.machine.specs.Demand3.{Awake}
 use Rattle.machine.specs.Sound.{Sound}
 use Rattle.machine.specs.declared.Document.{Document}
@@ -44,7 +44,7 @@ module _ (d : Document) (s : State) where
       (λ q. rw q (lt-ltb _ _ (f .bounded m (eqb-false (nodeState s n) 0 e) (omega (arith, eqb-false (durationOf (d .nodes) n) 0 q))))))))
       (λ m. rw m (eq-eqb _ _ (f .composite m)))
 
-  node-timed : (n : ℕ) → nodeRight d s n ≡ true → NodeTimed d n (nodeState s n) (nodeClock s n) × (compositeRule d s n ≡ true)
+  node-timed : (n : ℕ) → nodeRight d s n ≡ true → NodeTimed d n (nodeState s n) (nodeClock s n) × (compositeRight d s n ≡ true)
   unfolding nodeRight
   node-timed n e =
       let a = both-pass _ _ e in
@@ -58,8 +58,8 @@ module _ (d : Document) (s : State) where
         b .1,
       )
 
-  composed-at : (n : ℕ) → compositeRule d s n ≡ true → isMedia (d .nodes) n ≡ false → nodeState s n ≡ childrenState (d .nodes) (s .«node_state») n
-  unfolding compositeRule
+  composed-at : (n : ℕ) → compositeRight d s n ≡ true → isMedia (d .nodes) n ≡ false → nodeState s n ≡ childrenState (d .nodes) (s .nodes .states) n
+  unfolding compositeRight
   composed-at n e type = ⊎-elim (λ q. absurd (true≢false (sym q ∙ type))) (λ q. eqb-true _ _ q) (one-passes (isMedia (d .nodes) n) _ e)
 
   -- ---- of all of them
@@ -79,13 +79,13 @@ module _ (d : Document) (s : State) where
       }
 
   pub right-states : Right → statesRight d s ≡ true
-  unfolding statesRight nodeRight anchorRight compositeRule
+  unfolding statesRight nodeRight anchorRight compositeRight
   right-states r =
       pass-both _ _
       (each-every _ _ (λ n h. pass-both _ _ (pass-both _ _ (le-leb _ _ (r .timed .nodes n h .three)) (composite n h)) (clock-right n (r .timed .nodes n h))))
       (each-every _ _ (λ a h. eq-eqb _ _ (r .timed .anchors a h)))
     where
-      composite : (n : ℕ) → n < d .nodes .count → (isMedia (d .nodes) n || nodeState s n =? childrenState (d .nodes) (s .«node_state») n) ≡ true
+      composite : (n : ℕ) → n < d .nodes .count → (isMedia (d .nodes) n || nodeState s n =? childrenState (d .nodes) (s .nodes .states) n) ≡ true
       composite n h = by-test (isMedia (d .nodes) n) (λ e. rw e) (λ e. rw e (eq-eqb _ _ (r .composed .rule n h e)))
 
 pub record WholeTests (s : Session) : Type 0 where

@@ -1,10 +1,15 @@
 -- "Where an answer is an enum, a definition gives, for each of its cases, this paper's number and values."
 -- Every operation's promise is stated through these.
 use Prim.Native.Nat.{ℕ}
+use mathlib.Core.Path.{_≡_, refl}
+use mathlib.Core.Bool.{false}
 use mathlib.Core.List.{List, [], _∷_}
 use lib.IntN.{ℤ, pos}
+use Rattle.base.specs.Tests.{_=?_}
 use Rattle.machine.specs.declared.Refusal.{Refusal}
 use Rattle.machine.specs.declared.Refusal.the-variants.{CutRecord, UnknownKind, MisplacedHead, TableFull, FieldOutOfRange, UnknownId, Conflict, NoNode, BadArgument, NoSuchId, LimitReached, LogFull, BrokenSession}
+use Rattle.machine.specs.declared.Check
+use Rattle.machine.specs.declared.Check.{Check}
 use Rattle.machine.specs.declared.LoadAnswer
 use Rattle.machine.specs.declared.LoadAnswer.{LoadAnswer}
 use Rattle.machine.specs.declared.CallAnswer
@@ -44,6 +49,27 @@ numberOf LimitReached = 11
 numberOf LogFull = 12
 numberOf BrokenSession = 13
 
+-- no refusal has the number 0, which stands for none
+pub numbered : (r : Refusal) → numberOf r =? 0 ≡ false
+numbered CutRecord = refl
+numbered UnknownKind = refl
+numbered MisplacedHead = refl
+numbered TableFull = refl
+numbered FieldOutOfRange = refl
+numbered UnknownId = refl
+numbered Conflict = refl
+numbered NoNode = refl
+numbered BadArgument = refl
+numbered NoSuchId = refl
+numbered LimitReached = refl
+numbered LogFull = refl
+numbered BrokenSession = refl
+
+-- the number of the refusal that a check answers, 0 if it passed
+abbrev pub checkNumber : Check → ℕ
+checkNumber Check.Passed = 0
+checkNumber (Check.Refused r) = numberOf r
+
 abbrev pub loadAnswer : LoadAnswer → Answer
 loadAnswer LoadAnswer.Accepted = accepted []
 loadAnswer (LoadAnswer.Refused r) = refused (numberOf r)
@@ -66,6 +92,15 @@ conditionNumber EachHasOneLink = 3
 conditionNumber EachSetsOnce = 4
 conditionNumber EachUnguarded = 5
 conditionNumber NoOtherAction = 6
+
+-- no condition has the number 0, which stands for none
+pub condition-numbered : (c : Condition) → conditionNumber c =? 0 ≡ false
+condition-numbered HasAnchor = refl
+condition-numbered AnchorsDisjoint = refl
+condition-numbered EachHasOneLink = refl
+condition-numbered EachSetsOnce = refl
+condition-numbered EachUnguarded = refl
+condition-numbered NoOtherAction = refl
 
 -- "the first condition that fails, or that the document shows the counts": the condition's number, or 0
 abbrev pub countsAnswer : CountsAnswer → Answer

@@ -1,17 +1,16 @@
 -- "Broken session" (01's term), clause by clause.
-use Prim.Native.Nat.{ℕ, zero, suc}
+use Prim.Native.Nat.{ℕ}
 use mathlib.Core.Bool.{Bool, true, false, not, _&&_, _||_}
 use mathlib.Core.List.{List, [], _∷_}
-use lib.IntN.{ℤ, pos}
-use lib.ListN.{getD, take, drop}
+use lib.IntN.{pos}
+use lib.ListN.{drop}
 use Rattle.base.specs.Tests.{if_then_else_, _=?_, _<?_, _≤?_, equalInts}
 use Rattle.base.specs.Loops.{every}
-use Rattle.machine.specs.Terms.{sleeping, occurring, paused}
-use Rattle.machine.specs.Tables.{isMedia, durationOf, nodeAt, anchorAt, ruleAt, bindAt, portAt, linkAt, actionAt, actionCount}
+use Rattle.machine.specs.Terms.{sleeping, paused, simpleRule, compositeRule}
+use Rattle.machine.specs.Tables.{isMedia, durationOf, nodeAt, anchorAt, ruleAt, bindAt, portAt, linkAt, actionAt, actionCount, Column, numbers, integers, Table, nodeTable, anchorTable, ruleTable, bindTable, portTable, linkTable, actionTables, nodeEventTable, anchorEventTable, propertyEventTable}
 use Rattle.machine.specs.Records.{nodeFault, anchorFault, propertyFault, ruleFault, bindFault, portFault, linkFault, actionFault}
 use Rattle.machine.specs.Events.{nodeState, nodeClock, anchorState, awake, childrenState}
 use Rattle.machine.specs.declared.Document.{Document}
-use Rattle.machine.specs.declared.Rules.{Rules}
 use Rattle.machine.specs.declared.RuleRecord.{RuleRecord}
 use Rattle.machine.specs.declared.State.{State}
 use Rattle.machine.specs.declared.Session.{Session}
@@ -31,13 +30,13 @@ propertyObeys d i = propertyFault i =? 0
 -- of a rule's fields, those that its kind does not use are entries past a table's end, too
 unfoldable pub ruleUnusedZero : RuleRecord → Bool
 ruleUnusedZero r =
-    if r .kind =? 4 then r .operator =? 0 && r .left =? 0 && r .right =? 0
+    if r .kind =? simpleRule then r .operator =? 0 && r .left =? 0 && r .right =? 0
     else r .property =? 0 && r .comparator =? 0 && equalInts (r .value) (pos 0)
 
 unfoldable pub ruleObeys : Document → ℕ → Bool
 ruleObeys d i =
     let r = ruleAt (d .rules) i in
-    (r .kind =? 4 || r .kind =? 5) && ruleFault (d .properties) i r =? 0 && ruleUnusedZero r
+    (r .kind =? simpleRule || r .kind =? compositeRule) && ruleFault (d .properties) i r =? 0 && ruleUnusedZero r
 
 unfoldable pub bindObeys : Document → ℕ → Bool
 bindObeys d i = bindFault d i (bindAt (d .binds) i) =? 0
@@ -65,75 +64,39 @@ tablesObey d =
 
 -- ---- "non-zero entries past a table's end"
 
-unfoldable pub allZero : List ℕ → Bool
-allZero [] = true
-allZero (x ∷ xs) = x =? 0 && allZero xs
+unfoldable pub all : {A : Type 0} → (A → Bool) → List A → Bool
+all test [] = true
+all test (x ∷ xs) = test x && all test xs
 
-unfoldable pub allZeroInts : List ℤ → Bool
-allZeroInts [] = true
-allZeroInts (x ∷ xs) = equalInts x (pos 0) && allZeroInts xs
+abbrev pub zeroFrom : ℕ → Column → Bool
+zeroFrom end (numbers l) = all (λ x. x =? 0) (drop end l)
+zeroFrom end (integers l) = all (λ x. equalInts x (pos 0)) (drop end l)
 
-abbrev pub zeroFrom : ℕ → List ℕ → Bool
-zeroFrom end table = allZero (drop end table)
-
-abbrev pub zeroIntsFrom : ℕ → List ℤ → Bool
-zeroIntsFrom end table = allZeroInts (drop end table)
-
--- each link has 8 slots for actions, and those past its actions are zero; past the last link there are none
-unfoldable pub slotsZero : List ℕ → List ℕ → Bool
-slotsZero [] slots = true
-slotsZero (n ∷ counts) slots = zeroFrom n (take 8 slots) && slotsZero counts (drop 8 slots)
-
-unfoldable pub slotIntsZero : List ℕ → List ℤ → Bool
-slotIntsZero [] slots = true
-slotIntsZero (n ∷ counts) slots = zeroIntsFrom n (take 8 slots) && slotIntsZero counts (drop 8 slots)
+abbrev pub endsZero : Table → Bool
+endsZero t = all (zeroFrom (t .count)) (t .columns)
 
 unfoldable pub documentEndsZero : Document → Bool
 documentEndsZero d =
-    zeroFrom (d .nodes .count) (d .nodes .types)
-    && zeroFrom (d .nodes .count) (d .nodes .parents)
-    && zeroFrom (d .nodes .count) (d .nodes .durations)
-    && zeroFrom (d .anchors .count) (d .anchors .media)
-    && zeroFrom (d .anchors .count) (d .anchors .begins)
-    && zeroFrom (d .anchors .count) (d .anchors .ends)
-    && zeroFrom (d .rules .count) (d .rules .kinds)
-    && zeroFrom (d .rules .count) (d .rules .properties)
-    && zeroFrom (d .rules .count) (d .rules .comparators)
-    && zeroIntsFrom (d .rules .count) (d .rules .values)
-    && zeroFrom (d .rules .count) (d .rules .operators)
-    && zeroFrom (d .rules .count) (d .rules .lefts)
-    && zeroFrom (d .rules .count) (d .rules .rights)
-    && zeroFrom (d .binds .count) (d .binds .switches)
-    && zeroFrom (d .binds .count) (d .binds .children)
-    && zeroFrom (d .binds .count) (d .binds .rules)
-    && zeroFrom (d .ports .count) (d .ports .contexts)
-    && zeroFrom (d .ports .count) (d .ports .children)
-    && zeroFrom (d .links .count) (d .links .owners)
-    && zeroFrom (d .links .count) (d .links .classes)
-    && zeroFrom (d .links .count) (d .links .subjects)
-    && zeroFrom (d .links .count) (d .links .transitions)
-    && zeroFrom (d .links .count) (d .links .guards)
-    && zeroFrom (d .links .count) (d .links .«action_counts»)
-    && slotsZero (d .links .«action_counts») (d .actions .actions)
-    && slotsZero (d .links .«action_counts») (d .actions .targets)
-    && slotIntsZero (d .links .«action_counts») (d .actions .values)
+    endsZero (nodeTable (d .nodes))
+    && endsZero (anchorTable (d .anchors))
+    && endsZero (ruleTable (d .rules))
+    && endsZero (bindTable (d .binds))
+    && endsZero (portTable (d .ports))
+    && endsZero (linkTable (d .links))
+    && all endsZero (actionTables (d .links .«action_counts») (d .actions .actions) (d .actions .targets) (d .actions .values))
 
 unfoldable pub stateEndsZero : Document → State → Bool
 stateEndsZero d s =
-    zeroFrom (d .nodes .count) (s .«node_state»)
-    && zeroFrom (d .nodes .count) (s .«node_clock»)
-    && zeroFrom (d .nodes .count) (s .«node_count»)
-    && zeroFrom (d .anchors .count) (s .«anchor_state»)
-    && zeroFrom (d .anchors .count) (s .«anchor_count»)
-    && zeroIntsFrom (d .properties) (s .«property_value»)
-    && zeroFrom (d .properties) (s .«property_count»)
+    endsZero (nodeEventTable (d .nodes .count) (s .nodes))
+    && endsZero (anchorEventTable (d .anchors .count) (s .anchors))
+    && endsZero (propertyEventTable (d .properties) (s .properties))
 
 -- ---- "a state that is none of the three", "a state that breaks demand 3's composite or anchor rule",
 -- ---- "a composite or sleeping media with clock above 0, an awake media with clock ≥ its non-zero duration"
 
 -- "A composite is occurring exactly when a child is, and paused exactly when no child is occurring and one is paused."
-unfoldable pub compositeRule : Document → State → ℕ → Bool
-compositeRule d s n = isMedia (d .nodes) n || nodeState s n =? childrenState (d .nodes) (s .«node_state») n
+unfoldable pub compositeRight : Document → State → ℕ → Bool
+compositeRight d s n = isMedia (d .nodes) n || nodeState s n =? childrenState (d .nodes) (s .nodes .states) n
 
 unfoldable pub clockRight : Document → State → ℕ → Bool
 clockRight d s n =
@@ -142,7 +105,7 @@ clockRight d s n =
     else nodeClock s n =? 0
 
 unfoldable pub nodeRight : Document → State → ℕ → Bool
-nodeRight d s n = nodeState s n ≤? paused && compositeRule d s n && clockRight d s n
+nodeRight d s n = nodeState s n ≤? paused && compositeRight d s n && clockRight d s n
 
 -- "An anchor is awake exactly when its media is awake and begin ≤ clock < end, and then it is in its media's state."
 unfoldable pub anchorStateIn : Document → State → ℕ → ℕ

@@ -8,15 +8,17 @@ use mathlib.Core.Path.{_≡_, refl}
 use lib.IntN.{ℤ, pos}
 use lib.ListN.{set}
 use Rattle.base.specs.Tests.{_≤?_, _<?_}
-use Rattle.machine.specs.Terms.{toStart, toStop, toPause, toResume, toSet}
+use Rattle.machine.specs.Terms.{toStart, toStop, toPause, toResume}
 use Rattle.machine.specs.Tables.{anchorAt}
 use Rattle.machine.specs.Answers.{Answer, accepted, refused}
 use Rattle.machine.specs.Load.{load}
 use Rattle.machine.specs.Events.{nodeState, nodeClock, awake}
-use Rattle.machine.specs.Operations.{Call, command, key, tick, sessionAfter, resultsOf, joined}
+use Rattle.machine.specs.Operations.{sessionAfter, resultsOf, joined}
 use Rattle.machine.specs.Counts.{conditions, countOf, checkCounts, giveCount, lastCount, valueOf}
 use Rattle.machine.specs.Computing.{machine-computes}
-use Rattle.machine.specs.Examples.{digit, pairs, bytes, whole, on, All}
+use Rattle.machine.specs.Examples.{digit, pairs, bytes, whole, on, setTo, All}
+use Rattle.machine.specs.declared.Call.{Call}
+use Rattle.machine.specs.declared.Call.the-variants.{Key, Tick}
 
 -- of media 1 and property 0: the conditions; then, after the calls, whether the media is awake and its clock is in the anchor that is
 -- asked for, that anchor's count, the count of the last anchor that started, and the property's value
@@ -73,10 +75,10 @@ guarded = frames ++ bytes "04 00 00 63 00 00 00  08 00 02 00 01 FF  09 06 00 0A 
 
 -- the calls that bring media 1 to clock 1, and to clock 2
 toOne : List (Call × ℕ)
-toOne = on toStart 0 ∷ whole tick ∷ []
+toOne = on toStart 0 ∷ whole Tick ∷ []
 
 toTwo : List (Call × ℕ)
-toTwo = toOne ++ (whole tick ∷ [])
+toTwo = toOne ++ (whole Tick ∷ [])
 
 pub examples : List (Outcome × Outcome)
 examples =
@@ -85,7 +87,7 @@ examples =
     ∷ (outcome (frames ++ links) toOne 0, gives all true 10 10 10)
     ∷ (outcome (frames ++ links) toTwo 1, gives all true 20 20 20)
     -- with pauses, wherever the thumb comes down
-    ∷ (outcome (frames ++ links) (toOne ++ (on toPause 1 ∷ whole tick ∷ on toResume 1 ∷ whole tick ∷ on toPause 1 ∷ [])) 1, gives all true 20 20 20)
+    ∷ (outcome (frames ++ links) (toOne ++ (on toPause 1 ∷ whole Tick ∷ on toResume 1 ∷ whole Tick ∷ on toPause 1 ∷ [])) 1, gives all true 20 20 20)
     -- after a restart: outside the anchors the count of the last start, inside again that of the anchor
     ∷ (outcome (frames ++ links) (toTwo ++ (on toStop 0 ∷ on toStart 0 ∷ [])) 0, gives all false 10 20 20)
     ∷ (outcome (frames ++ links) (toTwo ++ (on toStop 0 ∷ toOne)) 0, gives all true 10 10 10)
@@ -101,13 +103,13 @@ examples =
     -- 5. a guard
     ∷ (outcome guarded toTwo 1, gives (but 4) true 20 20 10)
     -- 6. another action that sets p: of a link on key 7
-    ∷ (outcome (frames ++ links ++ bytes "08 00 04 07 01 FF  09 06 00 05 00 00 00") (toTwo ++ (whole (key 7) ∷ [])) 1, gives (but 5) true 20 20 5)
+    ∷ (outcome (frames ++ links ++ bytes "08 00 04 07 01 FF  09 06 00 05 00 00 00") (toTwo ++ (whole (Key 7) ∷ [])) 1, gives (but 5) true 20 20 5)
     -- an accepted command that sets p
-    ∷ (outcome (frames ++ links) (toTwo ++ (whole (command toSet 0 (pos 5)) ∷ [])) 1, gives all true 20 20 5)
+    ∷ (outcome (frames ++ links) (toTwo ++ (setTo 0 (pos 5) ∷ [])) 1, gives all true 20 20 5)
     ∷ []
 
 pub examples-hold : All (λ (e : Outcome × Outcome). e .0 ≡ e .1) examples
-unfolding machine-computes digit pairs bytes whole on outcome gives all but anchors frames links overlapping guarded toOne toTwo examples
+unfolding machine-computes digit pairs bytes whole on setTo outcome gives all but anchors frames links overlapping guarded toOne toTwo examples
 examples-hold = (refl, (refl, (refl, (refl, (refl, (refl, (refl, (refl, (refl, (refl, (refl, (refl, (refl, (refl, tt))))))))))))))
 
 -- ---- the answers of the check and of an anchor's count

@@ -14,12 +14,13 @@ use Rattle.machine.specs.Answers.{Answer, accepted, refused}
 use Rattle.machine.specs.Load.{load}
 use Rattle.machine.specs.Events.{nodeState, nodeClock}
 use Rattle.machine.specs.Broken.{broken}
-use Rattle.machine.specs.Operations.{Call, command, key, tick, call, sessionAfter, resultsOf, joined}
+use Rattle.machine.specs.Operations.{commandSets, call, sessionAfter, resultsOf, joined}
 use Rattle.machine.specs.Demand3.{Awake, Inside}
 use Rattle.machine.specs.declared.Anchors.{Anchors}
 use Rattle.machine.specs.declared.Document.{Document}
 use Rattle.machine.specs.declared.State.{State}
 use Rattle.machine.specs.declared.Session.{Session}
+use Rattle.machine.specs.declared.Call.{Call}
 use Rattle.machine.specs.declared.Line.{Line}
 
 -- ---- anchors of a media, and links that set a property
@@ -36,7 +37,7 @@ setsIn d p l j = actionAt (d .actions) l j .action =? toSet && actionAt (d .acti
 unfoldable pub timesSet : Document → ℕ → ℕ → ℕ
 timesSet d p l = passing (setsIn d p l) (actionCount (d .links) l)
 
--- link l is on the start of an anchor (class 2, transition 1), and sets p
+-- link l is on the start of an anchor, and sets p
 unfoldable pub isCountLink : Document → ℕ → ℕ → Bool
 isCountLink d p l =
     linkAt (d .links) l .class =? ofAnchor && linkAt (d .links) l .transition =? starts && 0 <? timesSet d p l
@@ -168,13 +169,7 @@ lastCount d m p before lines =
 -- ---- the statement
 
 abbrev pub valueOf : State → ℕ → ℤ
-valueOf s p = getD (s .«property_value») p (pos 0)
-
--- a command that sets p
-unfoldable pub commandSets : ℕ → Call → Bool
-commandSets p (command action target value) = action =? toSet && target =? p
-commandSets p (key code) = false
-commandSets p tick = false
+valueOf s p = getD (s .properties .values) p (pos 0)
 
 -- no accepted call of the list is a command that sets p
 abbrev pub NeverSets : ℕ → Session → List (Call × ℕ) → Type 0

@@ -6,7 +6,7 @@ use lib.IntN.{ℤ, pos}
 use lib.ListN.{getD}
 use lib.Signed.{ltZ, leZ}
 use Rattle.base.specs.Tests.{if_then_else_, _=?_, equalInts}
-use Rattle.machine.specs.Terms.{noId}
+use Rattle.machine.specs.Terms.{simpleRule, noId}
 use Rattle.machine.specs.Tables.{ruleAt}
 use Rattle.machine.specs.declared.Rules.{Rules}
 use Rattle.machine.specs.declared.RuleRecord.{RuleRecord}
@@ -28,7 +28,7 @@ combined operator x y = if operator =? 0 then x && y else x || y
 -- a rule, where `earlier` decides earlier ones; "the property's value stands on the left"
 unfoldable pub decided : (ℕ → Bool) → List ℤ → RuleRecord → Bool
 decided earlier values r =
-    if r .kind =? 4
+    if r .kind =? simpleRule
     then compared (r .comparator) (getD values (r .property) (pos 0)) (r .value)
     else combined (r .operator) (earlier (r .left)) (earlier (r .right))
 

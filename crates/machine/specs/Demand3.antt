@@ -12,10 +12,11 @@ use Rattle.machine.specs.Load.{load}
 use Rattle.machine.specs.Log.{linesOf}
 use Rattle.machine.specs.Events.{nodeState, nodeClock, nodeCount, anchorState, anchorCount, propertyCount}
 use Rattle.machine.specs.Broken.{broken}
-use Rattle.machine.specs.Operations.{Call, CallResult, call, sessionAfter, resultsOf, joined}
+use Rattle.machine.specs.Operations.{CallResult, call, sessionAfter, resultsOf, joined}
 use Rattle.machine.specs.declared.Document.{Document}
 use Rattle.machine.specs.declared.State.{State}
 use Rattle.machine.specs.declared.Session.{Session}
+use Rattle.machine.specs.declared.Call.{Call}
 use Rattle.machine.specs.declared.Line.{Line}
 
 -- ---- lines counted

@@ -1,4 +1,4 @@
--- "Events and commands". A step changes the run of a call: the states, the log, the firings, and whether the limit was met.
+-- "Events and commands". A step changes the run of a call: the states, the log and the firings.
 use Prim.Native.Nat.{ℕ, zero, suc, _+_, _-_, _%_}
 use mathlib.Core.Bool.{Bool, true, false, not, _&&_, _||_}
 use mathlib.Core.List.{List, [], _∷_}
@@ -7,7 +7,7 @@ use lib.ListN.{getD, set}
 use Rattle.base.specs.Tests.{if_then_else_, _=?_, _<?_, _≤?_}
 use Rattle.base.specs.Loops.{ascending, descending, some, first}
 use Rattle.machine.specs.Terms.{context, media, sleeping, occurring, paused, toStart, toAbort, toResume, toSet, noTransition, starts, stops, aborts, pauses, resumes, ofNode, ofAnchor, ofProperty, noId}
-use Rattle.machine.specs.Tables.{typeOf, parentOf, isMedia, anchorAt, bindAt, portAt}
+use Rattle.machine.specs.Tables.{typeOf, parentOf, isMedia, anchorAt, bindAt, portAt, withNodeEvents, withAnchorEvents, withPropertyEvents}
 use Rattle.machine.specs.Records.{isDefault}
 use Rattle.machine.specs.Deciding.{ruleHolds}
 use Rattle.machine.specs.Log.{Log, line, logged}
@@ -17,30 +17,30 @@ use Rattle.machine.specs.declared.Rules.{Rules}
 use Rattle.machine.specs.declared.Binds.{Binds}
 use Rattle.machine.specs.declared.Document.{Document}
 use Rattle.machine.specs.declared.State.{State}
+use Rattle.machine.specs.declared.ActionRecord.{ActionRecord}
 
 pub record Run : Type 0 where
   pub state : State
   pub log : Log
   pub firings : ℕ
-  pub limited : Bool
 
 abbrev pub nodeState : State → ℕ → ℕ
-nodeState s n = getD (s .«node_state») n 0
+nodeState s n = getD (s .nodes .states) n 0
 
 abbrev pub nodeClock : State → ℕ → ℕ
-nodeClock s n = getD (s .«node_clock») n 0
+nodeClock s n = getD (s .nodes .clocks) n 0
 
 abbrev pub nodeCount : State → ℕ → ℕ
-nodeCount s n = getD (s .«node_count») n 0
+nodeCount s n = getD (s .nodes .counts) n 0
 
 abbrev pub anchorState : State → ℕ → ℕ
-anchorState s a = getD (s .«anchor_state») a 0
+anchorState s a = getD (s .anchors .states) a 0
 
 abbrev pub anchorCount : State → ℕ → ℕ
-anchorCount s a = getD (s .«anchor_count») a 0
+anchorCount s a = getD (s .anchors .counts) a 0
 
 abbrev pub propertyCount : State → ℕ → ℕ
-propertyCount s p = getD (s .«property_count») p 0
+propertyCount s p = getD (s .properties .counts) p 0
 
 -- 01's term: "awake means not sleeping"
 abbrev pub awake : ℕ → Bool
@@ -67,40 +67,22 @@ unfoldable pub clocked : ℕ → ℕ → ℕ
 clocked change clock = if change ≤? aborts then 0 else clock
 
 abbrev pub withState : State → Log → Run → Run
-withState state log r = record { state = state; log = log; firings = r .firings; limited = r .limited }
+withState state log r = record { state = state; log = log; firings = r .firings }
 
 abbrev pub withNode : ℕ → ℕ → ℕ → ℕ → State → State
-withNode n state clock count s = record {
-  «node_state» = set (s .«node_state») n state;
-  «node_clock» = set (s .«node_clock») n clock;
-  «node_count» = set (s .«node_count») n count;
-  «anchor_state» = s .«anchor_state»;
-  «anchor_count» = s .«anchor_count»;
-  «property_value» = s .«property_value»;
-  «property_count» = s .«property_count»;
-}
+withNode n state clock count s =
+    let t = s .nodes in
+    withNodeEvents (record { states = set (t .states) n state; clocks = set (t .clocks) n clock; counts = set (t .counts) n count }) s
 
 abbrev pub withAnchor : ℕ → ℕ → ℕ → State → State
-withAnchor a state count s = record {
-  «node_state» = s .«node_state»;
-  «node_clock» = s .«node_clock»;
-  «node_count» = s .«node_count»;
-  «anchor_state» = set (s .«anchor_state») a state;
-  «anchor_count» = set (s .«anchor_count») a count;
-  «property_value» = s .«property_value»;
-  «property_count» = s .«property_count»;
-}
+withAnchor a state count s =
+    let t = s .anchors in
+    withAnchorEvents (record { states = set (t .states) a state; counts = set (t .counts) a count }) s
 
 abbrev pub withValue : ℕ → ℤ → ℕ → State → State
-withValue p value count s = record {
-  «node_state» = s .«node_state»;
-  «node_clock» = s .«node_clock»;
-  «node_count» = s .«node_count»;
-  «anchor_state» = s .«anchor_state»;
-  «anchor_count» = s .«anchor_count»;
-  «property_value» = set (s .«property_value») p value;
-  «property_count» = set (s .«property_count») p count;
-}
+withValue p value count s =
+    let t = s .properties in
+    withPropertyEvents (record { values = set (t .values) p value; counts = set (t .counts) p count }) s
 
 -- node n changes to the state, and its line is logged; nothing if there is no transition
 unfoldable pub nodeChanged : ℕ → ℕ → ℕ → Run → Run
@@ -216,7 +198,7 @@ contextStarted d start n r = ascending (portStarted d start n) (d .ports .count)
 -- "and a sleeping switch starts the child of its first bind whose rule holds"
 unfoldable pub switchStarted : Document → (ℕ → Run → Run) → ℕ → Run → Run
 switchStarted d start n r =
-    let b = foundBind (d .binds) (d .rules) (r .state .«property_value») n in
+    let b = foundBind (d .binds) (d .rules) (r .state .properties .values) n in
     if b <? d .binds .count then start (bindAt (d .binds) b .child) r else r
 
 -- "Start of an awake composite does nothing."
@@ -269,7 +251,7 @@ abortsAt nodes action target c = action =? toAbort && isBelow nodes target c
 unfoldable pub settledOne : Nodes → ℕ → ℕ → ℕ → Run → Run
 settledOne nodes action target c r =
     if isMedia nodes c then r
-    else nodeTo (abortsAt nodes action target c) c (childrenState nodes (r .state .«node_state») c) r
+    else nodeTo (abortsAt nodes action target c) c (childrenState nodes (r .state .nodes .states) c) r
 
 -- "composites by descending id"
 unfoldable pub settled : Nodes → ℕ → ℕ → Run → Run
@@ -277,11 +259,11 @@ settled nodes action target r = descending (settledOne nodes action target) (nod
 
 -- ---- an action, and "Settling comes once after each action"
 
-unfoldable pub performed : Document → ℕ → ℕ → ℤ → Run → Run
-performed d action target value r =
-    if action =? toSet then setProperty target value r
-    else if action =? toStart then started d 64 target r
-    else allMoved d action target r
+unfoldable pub performed : Document → ActionRecord → Run → Run
+performed d a r =
+    if a .action =? toSet then setProperty (a .target) (a .value) r
+    else if a .action =? toStart then started d 64 (a .target) r
+    else allMoved d (a .action) (a .target) r
 
-unfoldable pub acted : Document → ℕ → ℕ → ℤ → Run → Run
-acted d action target value r = settled (d .nodes) action target (performed d action target value r)
+unfoldable pub acted : Document → ActionRecord → Run → Run
+acted d a r = settled (d .nodes) (a .action) (a .target) (performed d a r)

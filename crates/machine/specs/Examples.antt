@@ -6,14 +6,16 @@ use mathlib.Core.List.{List, [], _∷_, _++_}
 use mathlib.Core.Path.{_≡_, refl}
 use lib.IntN.{ℤ, pos, negsuc}
 use Rattle.base.specs.Tests.{if_then_else_, _=?_, _<?_}
-use Rattle.machine.specs.Terms.{sleeping, occurring, paused, toStart, toStop, toAbort, toPause, toResume, ofNode, ofAnchor, ofProperty}
+use Rattle.machine.specs.Terms.{sleeping, occurring, paused, toStart, toStop, toAbort, toPause, toResume, toSet, ofNode, ofAnchor, ofProperty}
 use Rattle.machine.specs.Answers.{Answer, refused}
 use Rattle.machine.specs.Load.{load}
-use Rattle.machine.specs.Operations.{Call, command, key, tick, CallResult, reading, read, sessionAfter, resultsOf}
+use Rattle.machine.specs.Operations.{command, CallResult, reading, read, sessionAfter, resultsOf}
 use Rattle.machine.specs.Text.{text}
 use Rattle.machine.specs.PrintedRun.{printedCall, printedRun}
 use Rattle.machine.specs.Computing.{machine-computes}
 use Rattle.machine.specs.declared.Session.{Session}
+use Rattle.machine.specs.declared.Call.{Call}
+use Rattle.machine.specs.declared.Call.the-variants.{Key, Tick}
 
 -- ---- bytes, written in hexadecimal with blanks between them
 
@@ -66,6 +68,9 @@ whole c = (c, 256)
 
 unfoldable pub on : ℕ → ℕ → Call × ℕ
 on action target = whole (command action target (pos 0))
+
+unfoldable pub setTo : ℕ → ℤ → Call × ℕ
+setTo property value = whole (command toSet property value)
 
 -- ---- the documents
 
@@ -131,14 +136,14 @@ examples =
     shows (program paper (bytes "01 01 00 00 00 00 00  03  03  03"))
     "1 ok 2 0 1.1.1 1.0.1\n2 ok 4 1 2.0.1 5.0.0 3.0.1 3.0.2\n3 ok 1 0 2.0.2\n4 ok 2 0 1.1.2 1.0.2\n" []
     -- and its session: each event has occurred once. (Trap: an anchor awake at clock = end.)
-    ∷ shows (run paper (on toStart 0 ∷ whole tick ∷ whole tick ∷ whole tick ∷ []) (node 0 ∷ node 1 ∷ anchor 0 ∷ property 0 ∷ []))
+    ∷ shows (run paper (on toStart 0 ∷ whole Tick ∷ whole Tick ∷ whole Tick ∷ []) (node 0 ∷ node 1 ∷ anchor 0 ∷ property 0 ∷ []))
     "1 ok 2 0 1.1.1 1.0.1\n2 ok 4 1 2.0.1 5.0.0 3.0.1 3.0.2\n3 ok 1 0 2.0.2\n4 ok 2 0 1.1.2 1.0.2\n"
     (event sleeping 1 ∷ event sleeping 1 ∷ event sleeping 1 ∷ valued (pos 1420) 1 ∷ [])
     -- "After call 2 property 0 is 1420."
-    ∷ shows (run paper (on toStart 0 ∷ whole tick ∷ []) (node 0 ∷ node 1 ∷ anchor 0 ∷ property 0 ∷ [])) second
+    ∷ shows (run paper (on toStart 0 ∷ whole Tick ∷ []) (node 0 ∷ node 1 ∷ anchor 0 ∷ property 0 ∷ [])) second
     (event occurring 0 ∷ event occurring 0 ∷ event occurring 0 ∷ valued (pos 1420) 1 ∷ [])
     -- the same two calls at limit 1, which is used up and not passed
-    ∷ shows (run limitOne (on toStart 0 ∷ whole tick ∷ []) (property 0 ∷ [])) second (valued (pos 1420) 1 ∷ [])
+    ∷ shows (run limitOne (on toStart 0 ∷ whole Tick ∷ []) (property 0 ∷ [])) second (valued (pos 1420) 1 ∷ [])
     -- *start 0 twice, the second `ok 0 0`
     ∷ shows (run paper (on toStart 0 ∷ on toStart 0 ∷ []) (node 0 ∷ node 1 ∷ [])) "1 ok 2 0 1.1.1 1.0.1\n2 ok 0 0\n"
     (event occurring 0 ∷ event occurring 0 ∷ [])
@@ -155,17 +160,17 @@ examples =
     ∷ shows (run paper ((command toStart 0 (pos 0), 8) ∷ []) (node 1 ∷ [])) first (event occurring 0 ∷ [])
     ∷ shows (run paper ((command toStart 0 (pos 0), 7) ∷ []) (node 1 ∷ [])) "1 no 12\n" (event sleeping 0 ∷ [])
     -- *with a second link, on 3.0.2, that sets property 0, call 2 of this run is refused 11
-    ∷ shows (run secondLink (on toStart 0 ∷ whole tick ∷ []) (property 0 ∷ [])) "1 ok 2 0 1.1.1 1.0.1\n2 no 11\n"
+    ∷ shows (run secondLink (on toStart 0 ∷ whole Tick ∷ []) (property 0 ∷ [])) "1 ok 2 0 1.1.1 1.0.1\n2 no 11\n"
     (valued (pos 0) 0 ∷ [])
     -- *-2,147,483,648 lt 2,147,483,647 holds
-    ∷ shows (run extremes (whole (key 7) ∷ []) (property 0 ∷ [])) "1 ok 2 1 4.7.1 5.0.0\n" (valued (negsuc 2_147_483_647) 0 ∷ [])
+    ∷ shows (run extremes (whole (Key 7) ∷ []) (property 0 ∷ [])) "1 ok 2 1 4.7.1 5.0.0\n" (valued (negsuc 2_147_483_647) 0 ∷ [])
     -- Trap: settling after each media, which logs a pause while a context is being stopped.
     ∷ shows (run twoMedia (on toStart 0 ∷ on toPause 2 ∷ on toStop 0 ∷ []) (node 0 ∷ []))
     "1 ok 3 0 1.1.1 1.2.1 1.0.1\n2 ok 1 0 1.2.4\n3 ok 3 0 1.1.2 1.2.2 1.0.2\n" (event sleeping 1 ∷ [])
     -- Trap: guards read when the line was logged.
-    ∷ shows (run guarded (whole (key 7) ∷ []) (property 0 ∷ [])) "1 ok 5 2 4.7.1 5.0.0 3.0.1 3.0.2 5.1.0\n" (valued (pos 1) 1 ∷ [])
+    ∷ shows (run guarded (whole (Key 7) ∷ []) (property 0 ∷ [])) "1 ok 5 2 4.7.1 5.0.0 3.0.1 3.0.2 5.1.0\n" (valued (pos 1) 1 ∷ [])
     -- Trap: firing links before all media have ticked.
-    ∷ shows (run together (on toStart 0 ∷ whole tick ∷ []) (node 2 ∷ anchor 1 ∷ []))
+    ∷ shows (run together (on toStart 0 ∷ whole Tick ∷ []) (node 2 ∷ anchor 1 ∷ []))
     "1 ok 3 0 1.1.1 1.2.1 1.0.1\n2 ok 5 1 2.0.1 2.1.1 5.0.0 2.1.4 1.2.4\n" (event paused 0 ∷ event paused 0 ∷ [])
     ∷ []
 

@@ -1,30 +1,34 @@
--- The log of a call: its lines, the room for lines in the slice, and whether a line did not fit.
+-- The log of a call: its lines, the room for lines in the slice, and what stops the call.
 use Prim.Native.Nat.{ℕ, zero, suc, _-_, _*_, _/_}
-use mathlib.Core.Bool.{Bool, true, false}
 use mathlib.Core.List.{List, [], _∷_, _++_}
 use lib.ListN.{length, replicate}
-use Rattle.base.specs.Tests.{if_then_else_, _<?_}
+use Rattle.base.specs.Tests.{if_then_else_, _=?_, _<?_}
 use Rattle.machine.specs.declared.Line.{Line}
 
 -- "A log line is 4 bytes: class, id, transition, 0."
 abbrev pub line : ℕ → ℕ → ℕ → Line
 line class id transition = record { class = class; id = id; transition = transition; zero = 0 }
 
+-- what stops the call: 0, or the number of the refusal that was met first
 pub record Log : Type 0 where
   pub lines : List Line
   pub room : ℕ
-  pub full : Bool
+  pub stop : ℕ
 
 -- the log of a call that begins, in a slice of so many bytes: lines go into "the whole groups of 4 bytes of the slice"
 abbrev pub emptyLog : ℕ → Log
-emptyLog bytes = record { lines = []; room = bytes / 4; full = false }
+emptyLog bytes = record { lines = []; room = bytes / 4; stop = 0 }
+
+-- a refusal is met: "The one met first is given"
+abbrev pub met : ℕ → Log → Log
+met number g = record { lines = g .lines; room = g .room; stop = if g .stop =? 0 then number else g .stop }
 
 -- one line more; "12 when a line doesn't fit"
 unfoldable pub logged : Line → Log → Log
 logged l g =
     if length (g .lines) <? g .room
-    then record { lines = g .lines ++ (l ∷ []); room = g .room; full = g .full }
-    else record { lines = g .lines; room = g .room; full = true }
+    then record { lines = g .lines ++ (l ∷ []); room = g .room; stop = g .stop }
+    else met 12 g
 
 -- ---- the slice
 

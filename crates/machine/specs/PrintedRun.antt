@@ -6,10 +6,13 @@ use lib.IntN.{ℤ, pos, negsuc}
 use lib.ListN.{length, getD, take, drop}
 use Rattle.base.specs.Tests.{if_then_else_, _=?_, _≤?_}
 use Rattle.machine.specs.Text.{text, decimal}
-use Rattle.machine.specs.Fields.{byte, i32}
+use Rattle.machine.specs.Fields.{byte}
+use Rattle.machine.specs.Records.{actionOf}
 use Rattle.machine.specs.Log.{linesOf}
 use Rattle.machine.specs.Load.{load}
-use Rattle.machine.specs.Operations.{Call, command, key, tick, CallResult, call}
+use Rattle.machine.specs.Operations.{CallResult, call}
+use Rattle.machine.specs.declared.Call.{Call}
+use Rattle.machine.specs.declared.Call.the-variants.{Command, Key, Tick}
 use Rattle.machine.specs.declared.Line.{Line}
 use Rattle.machine.specs.declared.Session.{Session}
 
@@ -38,18 +41,28 @@ printedCall number r =
 
 -- ---- "Script records: 1 command (action, target, i32), 2 key (code), 3 tick."
 
+abbrev pub scriptLengths : List ℕ
+scriptLengths = 0 ∷ 6 ∷ 1 ∷ 0 ∷ []
+
 abbrev pub scriptLength : ℕ → ℕ
-scriptLength kind = getD (0 ∷ 6 ∷ 1 ∷ 0 ∷ []) kind 0
+scriptLength kind = getD scriptLengths kind 0
+
+abbrev pub isScriptKind : ℕ → Bool
+isScriptKind kind = 1 ≤? kind && kind ≤? 3
+
+-- the bytes of the longest record, its kind and a command's fields
+abbrev pub longestRecord : ℕ
+longestRecord = 7
 
 -- a whole record of a known kind stands there
 unfoldable pub isCall : ℕ → List ℕ → Bool
-isCall kind rest = 1 ≤? kind && kind ≤? 3 && scriptLength kind ≤? length rest
+isCall kind rest = isScriptKind kind && scriptLength kind ≤? length rest
 
 unfoldable pub callOf : ℕ → List ℕ → Call
 callOf kind body =
-    if kind =? 1 then command (byte body 0) (byte body 1) (i32 body 2)
-    else if kind =? 2 then key (byte body 0)
-    else tick
+    if kind =? 1 then Command (actionOf body)
+    else if kind =? 2 then Key (byte body 0)
+    else Tick
 
 -- ---- the run
 

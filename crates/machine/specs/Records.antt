@@ -8,7 +8,7 @@ use lib.IntN.{ℤ, pos}
 use lib.ListN.{getD, set}
 use Rattle.base.specs.Tests.{if_then_else_, _=?_, _<?_, _≤?_, equalInts}
 use Rattle.base.specs.Loops.{some}
-use Rattle.machine.specs.Terms.{context, media, switch, toStart, toSet, ofNode, ofAnchor, ofProperty, ofKey, noId}
+use Rattle.machine.specs.Terms.{context, media, switch, toStart, toSet, starts, stops, resumes, ofNode, ofAnchor, ofProperty, ofKey, simpleRule, compositeRule, noId}
 use Rattle.machine.specs.Fields.{byte, u16, i32}
 use Rattle.machine.specs.Tables.{typeOf, parentOf, durationOf, given, bindAt, portAt, latest, actionCount, withDocument, withLimit, withNodes, withAnchors, withProperties, withRules, withBinds, withPorts, withLinks, withValues, moreNodes, moreAnchors, moreRules, moreBinds, morePorts, moreLinks, moreActionCounts, moreActions}
 use Rattle.machine.specs.declared.Nodes.{Nodes}
@@ -18,15 +18,21 @@ use Rattle.machine.specs.declared.Document.{Document}
 use Rattle.machine.specs.declared.Session.{Session}
 use Rattle.machine.specs.declared.NodeRecord.{NodeRecord}
 use Rattle.machine.specs.declared.AnchorRecord.{AnchorRecord}
+use Rattle.machine.specs.declared.PropertyRecord.{PropertyRecord}
 use Rattle.machine.specs.declared.RuleRecord.{RuleRecord}
 use Rattle.machine.specs.declared.BindRecord.{BindRecord}
 use Rattle.machine.specs.declared.PortRecord.{PortRecord}
 use Rattle.machine.specs.declared.LinkRecord.{LinkRecord}
 use Rattle.machine.specs.declared.ActionRecord.{ActionRecord}
+use Rattle.machine.specs.declared.Record.{Record}
+use Rattle.machine.specs.declared.Record.the-variants.{Head, Node, Anchor, Property, Rule, Bind, Port, Link, Action}
 
 -- "one byte of kind, then a body whose length the kind fixes"
 abbrev pub bodyLengths : List ℕ
 bodyLengths = 1 ∷ 4 ∷ 5 ∷ 4 ∷ 6 ∷ 3 ∷ 3 ∷ 2 ∷ 5 ∷ 6 ∷ []
+
+abbrev pub greatestKind : ℕ
+greatestKind = 9
 
 abbrev pub bodyLength : ℕ → ℕ
 bodyLength kind = getD bodyLengths kind 0
@@ -45,7 +51,7 @@ nodeOf body = record { «node_type» = byte body 0; parent = byte body 1; durati
 -- "Node 0 is a context with parent 255" ("node 0's type and parent fall under 5")
 unfoldable pub nodeFieldsRight : ℕ → NodeRecord → Bool
 nodeFieldsRight id r =
-    r .«node_type» ≤? 2
+    r .«node_type» ≤? switch
     && (r .«node_type» =? media || r .duration =? 0)
     && (if id =? 0 then r .«node_type» =? context && r .parent =? noId else true)
 
@@ -75,8 +81,8 @@ anchorFault nodes id r =
 
 -- ---- "3 property, 4 bytes: first value i32. At most 32."
 
-abbrev pub firstValueOf : List ℕ → ℤ
-firstValueOf body = i32 body 0
+abbrev pub propertyOf : List ℕ → PropertyRecord
+propertyOf body = record { value = i32 body 0 }
 
 unfoldable pub propertyFault : ℕ → ℕ
 propertyFault id = if 32 ≤? id then 4 else 0
@@ -85,10 +91,12 @@ propertyFault id = if 32 ≤? id then 4 else 0
 -- ---- "5 composite rule, 3 bytes: operator (0 and, 1 or), two earlier rules of either kind. Kinds 4 and 5 share ids, at most 32."
 
 abbrev pub simpleRuleOf : List ℕ → RuleRecord
-simpleRuleOf body = record { kind = 4; property = byte body 0; comparator = byte body 1; value = i32 body 2; operator = 0; left = 0; right = 0 }
+simpleRuleOf body =
+    record { kind = simpleRule; property = byte body 0; comparator = byte body 1; value = i32 body 2; operator = 0; left = 0; right = 0 }
 
 abbrev pub compositeRuleOf : List ℕ → RuleRecord
-compositeRuleOf body = record { kind = 5; property = 0; comparator = 0; value = pos 0; operator = byte body 0; left = byte body 1; right = byte body 2 }
+compositeRuleOf body =
+    record { kind = compositeRule; property = 0; comparator = 0; value = pos 0; operator = byte body 0; left = byte body 1; right = byte body 2 }
 
 unfoldable pub simpleRuleFault : ℕ → RuleRecord → ℕ
 simpleRuleFault properties r =
@@ -105,7 +113,7 @@ compositeRuleFault id r =
 unfoldable pub ruleFault : ℕ → ℕ → RuleRecord → ℕ
 ruleFault properties id r =
     if 32 ≤? id then 4
-    else if r .kind =? 4 then simpleRuleFault properties r
+    else if r .kind =? simpleRule then simpleRuleFault properties r
     else compositeRuleFault id r
 
 -- ---- "6 bind, 3 bytes: switch, its child, rule; rule 255 marks the default, one a switch. At most 64."
@@ -149,10 +157,10 @@ linkOf body = record { owner = byte body 0; class = byte body 1; subject = byte 
 -- "A link may name 1 to 5 for classes 1 and 2, 1 or 2 for class 3, 1 for class 4."
 unfoldable pub transitionRight : ℕ → ℕ → Bool
 transitionRight class transition =
-    1 ≤? transition
-    && (if class =? ofNode || class =? ofAnchor then transition ≤? 5
-    else if class =? ofProperty then transition ≤? 2
-    else if class =? ofKey then transition ≤? 1
+    starts ≤? transition
+    && (if class =? ofNode || class =? ofAnchor then transition ≤? resumes
+    else if class =? ofProperty then transition ≤? stops
+    else if class =? ofKey then transition ≤? starts
     else false)
 
 -- an event's subject is given: a node, an anchor, a property; of a key "any byte"
@@ -190,48 +198,53 @@ actionFault d id r =
     else if not (1 ≤? d .links .count && targetGiven d (r .action) (r .target)) then 6
     else 0
 
--- ---- one record of any kind but the head
+-- ---- a record of any kind
 
-abbrev pub bodyFault : Document → ℕ → List ℕ → ℕ
-bodyFault d kind body =
-    if kind =? 1 then nodeFault (d .nodes) (d .nodes .count) (nodeOf body)
-    else if kind =? 2 then anchorFault (d .nodes) (d .anchors .count) (anchorOf body)
-    else if kind =? 3 then propertyFault (d .properties)
-    else if kind =? 4 then ruleFault (d .properties) (d .rules .count) (simpleRuleOf body)
-    else if kind =? 5 then ruleFault (d .properties) (d .rules .count) (compositeRuleOf body)
-    else if kind =? 6 then bindFault d (d .binds .count) (bindOf body)
-    else if kind =? 7 then portFault d (d .ports .count) (portOf body)
-    else if kind =? 8 then linkFault d (d .links .count) (linkOf body)
-    else if kind =? 9 then actionFault d (actionCount (d .links) (latest (d .links))) (actionOf body)
-    else 0
+-- the record of a kind and a body
+unfoldable pub recordOf : ℕ → List ℕ → Record
+recordOf kind body =
+    if kind =? 0 then Head (limitOf body)
+    else if kind =? 1 then Node (nodeOf body)
+    else if kind =? 2 then Anchor (anchorOf body)
+    else if kind =? 3 then Property (propertyOf body)
+    else if kind =? simpleRule then Rule (simpleRuleOf body)
+    else if kind =? compositeRule then Rule (compositeRuleOf body)
+    else if kind =? 6 then Bind (bindOf body)
+    else if kind =? 7 then Port (portOf body)
+    else if kind =? 8 then Link (linkOf body)
+    else Action (actionOf body)
 
--- ---- the session with the record's entry
+-- its fault, as the next entry of its table; a head has none
+abbrev pub recordFault : Document → Record → ℕ
+recordFault d (Head limit) = 0
+recordFault d (Node r) = nodeFault (d .nodes) (d .nodes .count) r
+recordFault d (Anchor r) = anchorFault (d .nodes) (d .anchors .count) r
+recordFault d (Property r) = propertyFault (d .properties)
+recordFault d (Rule r) = ruleFault (d .properties) (d .rules .count) r
+recordFault d (Bind r) = bindFault d (d .binds .count) r
+recordFault d (Port r) = portFault d (d .ports .count) r
+recordFault d (Link r) = linkFault d (d .links .count) r
+recordFault d (Action r) = actionFault d (actionCount (d .links) (latest (d .links))) r
 
 -- the first value of a property stands among the values that change
 abbrev pub withProperty : ℤ → Session → Session
 withProperty value s = record {
   document = withProperties (s .document .properties + 1) (s .document);
-  state = withValues (set (s .state .«property_value») (s .document .properties) value) (s .state);
+  state = withValues (set (s .state .properties .values) (s .document .properties) value) (s .state);
 }
 
 abbrev pub withAction : ActionRecord → Document → Document
 withAction r d =
     withLinks (moreActionCounts (d .links)) (moreActions (8 * latest (d .links) + actionCount (d .links) (latest (d .links))) r (d .actions)) d
 
-abbrev pub documentWith : ℕ → List ℕ → Document → Document
-documentWith kind body d =
-    if kind =? 0 then withLimit (limitOf body) d
-    else if kind =? 1 then withNodes (moreNodes (nodeOf body) (d .nodes)) d
-    else if kind =? 2 then withAnchors (moreAnchors (anchorOf body) (d .anchors)) d
-    else if kind =? 4 then withRules (moreRules (simpleRuleOf body) (d .rules)) d
-    else if kind =? 5 then withRules (moreRules (compositeRuleOf body) (d .rules)) d
-    else if kind =? 6 then withBinds (moreBinds (bindOf body) (d .binds)) d
-    else if kind =? 7 then withPorts (morePorts (portOf body) (d .ports)) d
-    else if kind =? 8 then withLinks (moreLinks (linkOf body) (d .links)) (d .actions) d
-    else if kind =? 9 then withAction (actionOf body) d
-    else d
-
-unfoldable pub entered : ℕ → List ℕ → Session → Session
-entered kind body s =
-    if kind =? 3 then withProperty (firstValueOf body) s
-    else withDocument (documentWith kind body (s .document)) s
+-- the session with its entry
+abbrev pub entered : Record → Session → Session
+entered (Head limit) s = withDocument (withLimit limit (s .document)) s
+entered (Node r) s = withDocument (withNodes (moreNodes r (s .document .nodes)) (s .document)) s
+entered (Anchor r) s = withDocument (withAnchors (moreAnchors r (s .document .anchors)) (s .document)) s
+entered (Property r) s = withProperty (r .value) s
+entered (Rule r) s = withDocument (withRules (moreRules r (s .document .rules)) (s .document)) s
+entered (Bind r) s = withDocument (withBinds (moreBinds r (s .document .binds)) (s .document)) s
+entered (Port r) s = withDocument (withPorts (morePorts r (s .document .ports)) (s .document)) s
+entered (Link r) s = withDocument (withLinks (moreLinks r (s .document .links)) (s .document .actions) (s .document)) s
+entered (Action r) s = withDocument (withAction r (s .document)) s

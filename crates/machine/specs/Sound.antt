@@ -2,16 +2,17 @@
 use Prim.Native.Nat.{ℕ, _<_, _≤_}
 use mathlib.Core.Bool.{true, false}
 use mathlib.Core.Path.{_≡_}
-use Rattle.machine.specs.Terms.{media, toStart, toSet, noId}
+use Rattle.machine.specs.Terms.{switch, toStart, toSet, simpleRule, noId}
 use Rattle.machine.specs.Tables.{typeOf, parentOf, durationOf, isMedia, anchorAt, ruleAt, bindAt, portAt, linkAt, actionCount, actionAt}
 use Rattle.machine.specs.declared.Nodes.{Nodes}
 use Rattle.machine.specs.declared.Rules.{Rules}
 use Rattle.machine.specs.declared.Document.{Document}
+use Rattle.machine.specs.declared.ActionRecord.{ActionRecord}
 
 pub record SoundNodes (nodes : Nodes) : Type 0 where
   pub few : nodes .count ≤ 64
   pub root : 0 < nodes .count
-  pub types : (n : ℕ) → n < nodes .count → typeOf nodes n ≤ 2
+  pub types : (n : ℕ) → n < nodes .count → typeOf nodes n ≤ switch
   pub earlier : (n : ℕ) → 0 < n → n < nodes .count → parentOf nodes n < n
   pub composite : (n : ℕ) → 0 < n → n < nodes .count → isMedia nodes (parentOf nodes n) ≡ false
   pub none : parentOf nodes 0 ≡ noId
@@ -19,9 +20,16 @@ pub record SoundNodes (nodes : Nodes) : Type 0 where
 
 pub record SoundRules (properties : ℕ) (rules : Rules) : Type 0 where
   pub few : rules .count ≤ 32
-  pub property : (i : ℕ) → i < rules .count → ruleAt rules i .kind ≡ 4 → ruleAt rules i .property < properties
-  pub left : (i : ℕ) → i < rules .count → (ruleAt rules i .kind ≡ 4 → ⊥) → ruleAt rules i .left < i
-  pub right : (i : ℕ) → i < rules .count → (ruleAt rules i .kind ≡ 4 → ⊥) → ruleAt rules i .right < i
+  pub property : (i : ℕ) → i < rules .count → ruleAt rules i .kind ≡ simpleRule → ruleAt rules i .property < properties
+  pub left : (i : ℕ) → i < rules .count → (ruleAt rules i .kind ≡ simpleRule → ⊥) → ruleAt rules i .left < i
+  pub right : (i : ℕ) → i < rules .count → (ruleAt rules i .kind ≡ simpleRule → ⊥) → ruleAt rules i .right < i
+
+-- an action that is one of the six, on a target that is given
+pub record Applicable (d : Document) (a : ActionRecord) : Type 0 where
+  pub least : toStart ≤ a .action
+  pub most : a .action ≤ toSet
+  pub node : (a .action ≡ toSet → ⊥) → a .target < d .nodes .count
+  pub property : a .action ≡ toSet → a .target < d .properties
 
 pub record Sound (d : Document) : Type 0 where
   pub limit : 0 < d .limit
@@ -30,7 +38,8 @@ pub record Sound (d : Document) : Type 0 where
   pub anchor-media : (a : ℕ) → a < d .anchors .count → anchorAt (d .anchors) a .media < d .nodes .count
   pub anchor-type : (a : ℕ) → a < d .anchors .count → isMedia (d .nodes) (anchorAt (d .anchors) a .media) ≡ true
   pub anchor-span : (a : ℕ) → a < d .anchors .count → anchorAt (d .anchors) a .begin < anchorAt (d .anchors) a .end
-  pub anchor-within : (a : ℕ) → a < d .anchors .count → 0 < durationOf (d .nodes) (anchorAt (d .anchors) a .media) → anchorAt (d .anchors) a .end ≤ durationOf (d .nodes) (anchorAt (d .anchors) a .media)
+  pub anchor-within : (a : ℕ) → a < d .anchors .count → 0 < durationOf (d .nodes) (anchorAt (d .anchors) a .media)
+      → anchorAt (d .anchors) a .end ≤ durationOf (d .nodes) (anchorAt (d .anchors) a .media)
   pub properties : d .properties ≤ 32
   pub rules : SoundRules (d .properties) (d .rules)
   pub binds : d .binds .count ≤ 64
@@ -43,7 +52,4 @@ pub record Sound (d : Document) : Type 0 where
   pub links : d .links .count ≤ 64
   pub link-guard : (l : ℕ) → l < d .links .count → (linkAt (d .links) l .guard ≡ noId → ⊥) → linkAt (d .links) l .guard < d .rules .count
   pub actions : (l : ℕ) → l < d .links .count → actionCount (d .links) l ≤ 8
-  pub action-least : (l j : ℕ) → l < d .links .count → j < actionCount (d .links) l → toStart ≤ actionAt (d .actions) l j .action
-  pub action-most : (l j : ℕ) → l < d .links .count → j < actionCount (d .links) l → actionAt (d .actions) l j .action ≤ toSet
-  pub action-node : (l j : ℕ) → l < d .links .count → j < actionCount (d .links) l → (actionAt (d .actions) l j .action ≡ toSet → ⊥) → actionAt (d .actions) l j .target < d .nodes .count
-  pub action-property : (l j : ℕ) → l < d .links .count → j < actionCount (d .links) l → actionAt (d .actions) l j .action ≡ toSet → actionAt (d .actions) l j .target < d .properties
+  pub link-action : (l j : ℕ) → l < d .links .count → j < actionCount (d .links) l → Applicable d (actionAt (d .actions) l j)

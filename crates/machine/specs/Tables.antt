@@ -1,11 +1,11 @@
--- The tables of a session: the empty session, what a table says of an id, an entry as a record, and a table with one entry more.
+-- The tables of a session: the empty session, what a table says of an id, an entry as a record, a table as its columns, and a table with one entry more.
 use Prim.Native.Nat.{ℕ, zero, _+_, _-_, _*_}
 use mathlib.Core.Bool.{Bool, true, false, not, _&&_}
-use mathlib.Core.List.{List}
+use mathlib.Core.List.{List, [], _∷_}
 use lib.IntN.{ℤ, pos}
-use lib.ListN.{getD, set, replicate}
+use lib.ListN.{getD, set, take, drop, replicate}
 use Rattle.base.specs.Tests.{_=?_, _<?_}
-use Rattle.machine.specs.Terms.{context, media, switch}
+use Rattle.machine.specs.Terms.{context, media, switch, sleeping}
 use Rattle.machine.specs.declared.Nodes.{Nodes}
 use Rattle.machine.specs.declared.Anchors.{Anchors}
 use Rattle.machine.specs.declared.Rules.{Rules}
@@ -14,6 +14,9 @@ use Rattle.machine.specs.declared.Ports.{Ports}
 use Rattle.machine.specs.declared.Links.{Links}
 use Rattle.machine.specs.declared.Actions.{Actions}
 use Rattle.machine.specs.declared.Document.{Document}
+use Rattle.machine.specs.declared.NodeEvents.{NodeEvents}
+use Rattle.machine.specs.declared.AnchorEvents.{AnchorEvents}
+use Rattle.machine.specs.declared.PropertyEvents.{PropertyEvents}
 use Rattle.machine.specs.declared.State.{State}
 use Rattle.machine.specs.declared.Session.{Session}
 use Rattle.machine.specs.declared.NodeRecord.{NodeRecord}
@@ -59,13 +62,9 @@ emptyDocument = record {
 -- "A new session has all sleeping, clocks and counts 0."
 unfoldable pub newState : State
 newState = record {
-  «node_state» = replicate 64 0;
-  «node_clock» = replicate 64 0;
-  «node_count» = replicate 64 0;
-  «anchor_state» = replicate 128 0;
-  «anchor_count» = replicate 128 0;
-  «property_value» = replicate 32 (pos 0);
-  «property_count» = replicate 32 0;
+  nodes = record { states = replicate 64 sleeping; clocks = replicate 64 0; counts = replicate 64 0 };
+  anchors = record { states = replicate 128 sleeping; counts = replicate 128 0 };
+  properties = record { values = replicate 32 (pos 0); counts = replicate 32 0 };
 }
 
 unfoldable pub emptySession : Session
@@ -133,6 +132,63 @@ actionAt t l j = record {
   target = getD (t .targets) (8 * l + j) 0;
   value = getD (t .values) (8 * l + j) (pos 0);
 }
+
+-- ---- a table as its columns: so many entries, in so many places
+
+-- a column is one of numbers, or of signed numbers
+pub data Column : Type 0 where
+  numbers : List ℕ → Column
+  integers : List ℤ → Column
+
+pub record Table : Type 0 where
+  pub count : ℕ
+  pub places : ℕ
+  pub columns : List Column
+
+abbrev pub nodeTable : Nodes → Table
+nodeTable t = record { count = t .count; places = 64; columns = numbers (t .types) ∷ numbers (t .parents) ∷ numbers (t .durations) ∷ [] }
+
+abbrev pub anchorTable : Anchors → Table
+anchorTable t = record { count = t .count; places = 128; columns = numbers (t .media) ∷ numbers (t .begins) ∷ numbers (t .ends) ∷ [] }
+
+abbrev pub ruleTable : Rules → Table
+ruleTable t = record {
+  count = t .count;
+  places = 32;
+  columns = numbers (t .kinds) ∷ numbers (t .properties) ∷ numbers (t .comparators) ∷ integers (t .values)
+      ∷ numbers (t .operators) ∷ numbers (t .lefts) ∷ numbers (t .rights) ∷ [];
+}
+
+abbrev pub bindTable : Binds → Table
+bindTable t = record { count = t .count; places = 64; columns = numbers (t .switches) ∷ numbers (t .children) ∷ numbers (t .rules) ∷ [] }
+
+abbrev pub portTable : Ports → Table
+portTable t = record { count = t .count; places = 64; columns = numbers (t .contexts) ∷ numbers (t .children) ∷ [] }
+
+abbrev pub linkTable : Links → Table
+linkTable t = record {
+  count = t .count;
+  places = 64;
+  columns = numbers (t .owners) ∷ numbers (t .classes) ∷ numbers (t .subjects)
+      ∷ numbers (t .transitions) ∷ numbers (t .guards) ∷ numbers (t .«action_counts») ∷ [];
+}
+
+-- the actions of each link, in 8 places of their own: from the number of actions of each link and the columns of all actions
+abbrev pub actionTables : List ℕ → List ℕ → List ℕ → List ℤ → List Table
+actionTables [] actions targets values = []
+actionTables (n ∷ counts) actions targets values =
+    record { count = n; places = 8; columns = numbers (take 8 actions) ∷ numbers (take 8 targets) ∷ integers (take 8 values) ∷ [] }
+    ∷ actionTables counts (drop 8 actions) (drop 8 targets) (drop 8 values)
+
+-- the events of so many nodes, anchors and properties
+abbrev pub nodeEventTable : ℕ → NodeEvents → Table
+nodeEventTable nodes t = record { count = nodes; places = 64; columns = numbers (t .states) ∷ numbers (t .clocks) ∷ numbers (t .counts) ∷ [] }
+
+abbrev pub anchorEventTable : ℕ → AnchorEvents → Table
+anchorEventTable anchors t = record { count = anchors; places = 128; columns = numbers (t .states) ∷ numbers (t .counts) ∷ [] }
+
+abbrev pub propertyEventTable : ℕ → PropertyEvents → Table
+propertyEventTable properties t = record { count = properties; places = 32; columns = integers (t .values) ∷ numbers (t .counts) ∷ [] }
 
 -- ---- one entry more: "Ids are one byte, given from 0 in order of appearance within each table."
 
@@ -218,37 +274,54 @@ moreActions place r t = record {
 abbrev pub withDocument : Document → Session → Session
 withDocument d s = record { document = d; state = s .state }
 
+-- the document of these fields
+abbrev pub documentOf : ℕ → Nodes → Anchors → ℕ → Rules → Binds → Ports → Links → Actions → Document
+documentOf limit nodes anchors properties rules binds ports links actions = record {
+  limit = limit;
+  nodes = nodes;
+  anchors = anchors;
+  properties = properties;
+  rules = rules;
+  binds = binds;
+  ports = ports;
+  links = links;
+  actions = actions;
+}
+
 abbrev pub withLimit : ℕ → Document → Document
-withLimit t d = record { limit = t; nodes = d .nodes; anchors = d .anchors; properties = d .properties; rules = d .rules; binds = d .binds; ports = d .ports; links = d .links; actions = d .actions }
+withLimit t d = documentOf t (d .nodes) (d .anchors) (d .properties) (d .rules) (d .binds) (d .ports) (d .links) (d .actions)
 
 abbrev pub withNodes : Nodes → Document → Document
-withNodes t d = record { limit = d .limit; nodes = t; anchors = d .anchors; properties = d .properties; rules = d .rules; binds = d .binds; ports = d .ports; links = d .links; actions = d .actions }
+withNodes t d = documentOf (d .limit) t (d .anchors) (d .properties) (d .rules) (d .binds) (d .ports) (d .links) (d .actions)
 
 abbrev pub withAnchors : Anchors → Document → Document
-withAnchors t d = record { limit = d .limit; nodes = d .nodes; anchors = t; properties = d .properties; rules = d .rules; binds = d .binds; ports = d .ports; links = d .links; actions = d .actions }
+withAnchors t d = documentOf (d .limit) (d .nodes) t (d .properties) (d .rules) (d .binds) (d .ports) (d .links) (d .actions)
 
 abbrev pub withProperties : ℕ → Document → Document
-withProperties t d = record { limit = d .limit; nodes = d .nodes; anchors = d .anchors; properties = t; rules = d .rules; binds = d .binds; ports = d .ports; links = d .links; actions = d .actions }
+withProperties t d = documentOf (d .limit) (d .nodes) (d .anchors) t (d .rules) (d .binds) (d .ports) (d .links) (d .actions)
 
 abbrev pub withRules : Rules → Document → Document
-withRules t d = record { limit = d .limit; nodes = d .nodes; anchors = d .anchors; properties = d .properties; rules = t; binds = d .binds; ports = d .ports; links = d .links; actions = d .actions }
+withRules t d = documentOf (d .limit) (d .nodes) (d .anchors) (d .properties) t (d .binds) (d .ports) (d .links) (d .actions)
 
 abbrev pub withBinds : Binds → Document → Document
-withBinds t d = record { limit = d .limit; nodes = d .nodes; anchors = d .anchors; properties = d .properties; rules = d .rules; binds = t; ports = d .ports; links = d .links; actions = d .actions }
+withBinds t d = documentOf (d .limit) (d .nodes) (d .anchors) (d .properties) (d .rules) t (d .ports) (d .links) (d .actions)
 
 abbrev pub withPorts : Ports → Document → Document
-withPorts t d = record { limit = d .limit; nodes = d .nodes; anchors = d .anchors; properties = d .properties; rules = d .rules; binds = d .binds; ports = t; links = d .links; actions = d .actions }
+withPorts t d = documentOf (d .limit) (d .nodes) (d .anchors) (d .properties) (d .rules) (d .binds) t (d .links) (d .actions)
 
 abbrev pub withLinks : Links → Actions → Document → Document
-withLinks t a d = record { limit = d .limit; nodes = d .nodes; anchors = d .anchors; properties = d .properties; rules = d .rules; binds = d .binds; ports = d .ports; links = t; actions = a }
+withLinks t a d = documentOf (d .limit) (d .nodes) (d .anchors) (d .properties) (d .rules) (d .binds) (d .ports) t a
+
+-- ---- a state with other events
+
+abbrev pub withNodeEvents : NodeEvents → State → State
+withNodeEvents t s = record { nodes = t; anchors = s .anchors; properties = s .properties }
+
+abbrev pub withAnchorEvents : AnchorEvents → State → State
+withAnchorEvents t s = record { nodes = s .nodes; anchors = t; properties = s .properties }
+
+abbrev pub withPropertyEvents : PropertyEvents → State → State
+withPropertyEvents t s = record { nodes = s .nodes; anchors = s .anchors; properties = t }
 
 abbrev pub withValues : List ℤ → State → State
-withValues values s = record {
-  «node_state» = s .«node_state»;
-  «node_clock» = s .«node_clock»;
-  «node_count» = s .«node_count»;
-  «anchor_state» = s .«anchor_state»;
-  «anchor_count» = s .«anchor_count»;
-  «property_value» = values;
-  «property_count» = s .«property_count»;
-}
+withValues values s = withPropertyEvents (record { values = values; counts = s .properties .counts }) s

@@ -79,6 +79,13 @@ ofKey = 4
 abbrev pub ofFired : ℕ
 ofFired = 5
 
+-- Kinds of a rule.
+abbrev pub simpleRule : ℕ
+simpleRule = 4
+
+abbrev pub compositeRule : ℕ
+compositeRule = 5
+
 -- The parent of node 0, the rule of a default bind, the guard of a link that has none.
 abbrev pub noId : ℕ
 noId = 255

@@ -5,22 +5,16 @@ use lib.ListN.{set}
 use Rattle.base.specs.Tests.{if_then_else_, _=?_, _<?_}
 use Rattle.base.specs.Loops.{ascending}
 use Rattle.machine.specs.Terms.{sleeping, occurring, toStop, noAction, starts, ofKey}
-use Rattle.machine.specs.Tables.{isMedia, durationOf}
+use Rattle.machine.specs.Tables.{isMedia, durationOf, withNodeEvents}
 use Rattle.machine.specs.Log.{line, logged}
 use Rattle.machine.specs.Events.{Run, nodeState, nodeClock, withState, beginsAt, endsAt, anchorsMoved, mediaMoved, settled}
 use Rattle.machine.specs.declared.Document.{Document}
 use Rattle.machine.specs.declared.State.{State}
 
 abbrev pub withClock : ℕ → ℕ → State → State
-withClock n clock s = record {
-  «node_state» = s .«node_state»;
-  «node_clock» = set (s .«node_clock») n clock;
-  «node_count» = s .«node_count»;
-  «anchor_state» = s .«anchor_state»;
-  «anchor_count» = s .«anchor_count»;
-  «property_value» = s .«property_value»;
-  «property_count» = s .«property_count»;
-}
+withClock n clock s =
+    let t = s .nodes in
+    withNodeEvents (record { states = t .states; clocks = set (t .clocks) n clock; counts = t .counts }) s
 
 -- media n comes to the clock: "its awake anchors with end = clock stop in id order, then those with begin = clock start in id order"
 unfoldable pub anchorsPassed : Document → ℕ → ℕ → Run → Run

@@ -1,6 +1,11 @@
-// The types of the report player. What its operations do is defined in specs/; there is no engine code here.
+// The types of the report player. What its operations do is defined in specs/; the only code is the number of a refusal and whether a check passed; 01's numbers by name are in `terms`.
 //
 // A session is written down in public numbers, laid out as in C, and anybody may write one: nothing is assumed of it.
+pub mod terms;
+
+ghost use mathlib.Core.Path.{_≡_};
+ghost use Rattle.base.specs.Tests.{_=?_};
+ghost use Rattle.machine.specs.Answers.{numberOf, checkNumber};
 
 // ---- the tables of a document: entry i of each array belongs to id i
 
@@ -86,14 +91,29 @@ pub struct Document {
 // ---- what changes: states are 0 sleeping, 1 occurring, 2 paused; counts are of occurrences
 
 #[repr(C)]
+pub struct NodeEvents {
+    pub states: [u8; 64],
+    pub clocks: [u16; 64],
+    pub counts: [u32; 64],
+}
+
+#[repr(C)]
+pub struct AnchorEvents {
+    pub states: [u8; 128],
+    pub counts: [u32; 128],
+}
+
+#[repr(C)]
+pub struct PropertyEvents {
+    pub values: [i32; 32],
+    pub counts: [u32; 32],
+}
+
+#[repr(C)]
 pub struct State {
-    pub node_state: [u8; 64],
-    pub node_clock: [u16; 64],
-    pub node_count: [u32; 64],
-    pub anchor_state: [u8; 128],
-    pub anchor_count: [u32; 128],
-    pub property_value: [i32; 32],
-    pub property_count: [u32; 32],
+    pub nodes: NodeEvents,
+    pub anchors: AnchorEvents,
+    pub properties: PropertyEvents,
 }
 
 #[repr(C)]
@@ -114,6 +134,10 @@ pub struct AnchorRecord {
     pub media: u8,
     pub begin: u16,
     pub end: u16,
+}
+
+pub struct PropertyRecord {
+    pub value: i32,
 }
 
 pub struct RuleRecord {
@@ -151,6 +175,26 @@ pub struct ActionRecord {
     pub value: i32,
 }
 
+pub enum Record {
+    Head(u8),
+    Node(NodeRecord),
+    Anchor(AnchorRecord),
+    Property(PropertyRecord),
+    Rule(RuleRecord),
+    Bind(BindRecord),
+    Port(PortRecord),
+    Link(LinkRecord),
+    Action(ActionRecord),
+}
+
+// ---- a call: a command has the fields of an action, a key its code
+
+pub enum Call {
+    Command(ActionRecord),
+    Key(u8),
+    Tick,
+}
+
 // ---- a log line: its 4 bytes, of which the last is 0
 
 pub struct Line {
@@ -162,7 +206,7 @@ pub struct Line {
 
 // ---- the answers of the operations
 
-// In the order of their numbers, 1 to 13.
+// In the order of their numbers.
 pub enum Refusal {
     CutRecord,
     UnknownKind,
@@ -177,6 +221,41 @@ pub enum Refusal {
     LimitReached,
     LogFull,
     BrokenSession,
+}
+
+pub fn number_of(refusal: Refusal) -> u8
+    ensures { λ r. ⌜ r ≡ numberOf refusal ⌝ }
+{
+    match refusal {
+        Refusal::CutRecord => 1,
+        Refusal::UnknownKind => 2,
+        Refusal::MisplacedHead => 3,
+        Refusal::TableFull => 4,
+        Refusal::FieldOutOfRange => 5,
+        Refusal::UnknownId => 6,
+        Refusal::Conflict => 7,
+        Refusal::NoNode => 8,
+        Refusal::BadArgument => 9,
+        Refusal::NoSuchId => 10,
+        Refusal::LimitReached => 11,
+        Refusal::LogFull => 12,
+        Refusal::BrokenSession => 13,
+    }
+}
+
+// What a check answers, and what stops a call: nothing, or a refusal.
+pub enum Check {
+    Passed,
+    Refused(Refusal),
+}
+
+pub fn passed(check: Check) -> bool
+    ensures { λ b. ⌜ b ≡ checkNumber check =? 0 ⌝ }
+{
+    match check {
+        Check::Passed => true,
+        Check::Refused(_) => false,
+    }
 }
 
 pub enum LoadAnswer {

@@ -1,4 +1,3 @@
-mod ByKind
-mod Refusals
-mod Faults
+mod Room
+mod Places
 mod Records

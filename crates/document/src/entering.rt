@@ -1,6 +1,4 @@
-// A record that was read becomes the next entry of its table.
-use crate::reading::PropertyRecord;
-use crate::reading::Record;
+// A record without a fault becomes the next entry of its table.
 use machine::ActionRecord;
 use machine::AnchorRecord;
 use machine::BindRecord;
@@ -8,13 +6,14 @@ use machine::Document;
 use machine::LinkRecord;
 use machine::NodeRecord;
 use machine::PortRecord;
+use machine::PropertyRecord;
+use machine::Record;
 use machine::RuleRecord;
 use machine::Session;
 ghost use mathlib.Core.Path.{_≡_};
 ghost use Prim.Native.Nat.{_<_, _≤_, _-_};
 ghost use Rattle.machine.specs.Tables.{withDocument, withLimit, withNodes, withAnchors, withRules, withBinds, withPorts, withLinks, moreNodes, moreAnchors, moreRules, moreBinds, morePorts, moreLinks, latest, actionCount};
-ghost use Rattle.machine.specs.Records.{withProperty, withAction};
-ghost use Rattle.document.specs.Entering.{Fits, enteredRecord};
+ghost use Rattle.machine.specs.Records.{recordFault, withProperty, withAction, entered};
 
 fn enter_head(d: Document, limit: u8) -> Document
     ensures { λ r. ⌜ r ≡ withLimit limit d ⌝ }
@@ -63,8 +62,10 @@ fn enter_property(s: Session, r: PropertyRecord) -> Session
     let id = d.properties;
     d.properties = id + 1;
     let mut state = s.state;
+    let mut properties = state.properties;
     let value = r.value;
-    state.property_value[id] = value;
+    properties.values[id] = value;
+    state.properties = properties;
     Session { document: d, state }
 }
 
@@ -136,7 +137,8 @@ fn enter_link(d: Document, r: LinkRecord) -> Document
 
 // An action of the latest link.
 fn enter_action(d: Document, r: ActionRecord) -> Document
-    requires { ⌜ (1 ≤ d .links .count) × ((d .links .count ≤ 64) × (actionCount (d .links) (latest (d .links)) < 8)) ⌝ }
+    requires { ⌜ (1 ≤ d .links .count)
+        × ((d .links .count ≤ 64) × (actionCount (d .links) (latest (d .links)) < 8)) ⌝ }
     ensures { λ t. ⌜ t ≡ withAction r d ⌝ }
 {
     let mut links = d.links;
@@ -163,20 +165,20 @@ fn with_document(s: Session, d: Document) -> Session
     next
 }
 
-pub fn enter(s: Session, read: Record) -> Session
-    requires { ⌜ Fits read s ⌝ }
-    ensures { λ r. ⌜ r ≡ enteredRecord read s ⌝ }
+pub fn enter(s: Session, r: Record) -> Session
+    requires { ⌜ (recordFault (s .document) r ≡ 0) × (s .document .links .count ≤ 64) ⌝ }
+    ensures { λ t. ⌜ t ≡ entered r s ⌝ }
 {
     let d = s.document;
-    match read {
+    match r {
         Record::Head(limit) => with_document(s, enter_head(d, limit)),
-        Record::Node(r) => with_document(s, enter_node(d, r)),
-        Record::Anchor(r) => with_document(s, enter_anchor(d, r)),
-        Record::Property(r) => enter_property(s, r),
-        Record::Rule(r) => with_document(s, enter_rule(d, r)),
-        Record::Bind(r) => with_document(s, enter_bind(d, r)),
-        Record::Port(r) => with_document(s, enter_port(d, r)),
-        Record::Link(r) => with_document(s, enter_link(d, r)),
-        Record::Action(r) => with_document(s, enter_action(d, r)),
+        Record::Node(node) => with_document(s, enter_node(d, node)),
+        Record::Anchor(anchor) => with_document(s, enter_anchor(d, anchor)),
+        Record::Property(property) => enter_property(s, property),
+        Record::Rule(rule) => with_document(s, enter_rule(d, rule)),
+        Record::Bind(bind) => with_document(s, enter_bind(d, bind)),
+        Record::Port(port) => with_document(s, enter_port(d, port)),
+        Record::Link(link) => with_document(s, enter_link(d, link)),
+        Record::Action(action) => with_document(s, enter_action(d, action)),
     }
 }

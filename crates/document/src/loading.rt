@@ -1,25 +1,36 @@
 // Load: record after record, until the bytes end or a record is refused.
+use crate::checking::check_place;
+use crate::checking::check_record;
 use crate::entering::enter;
 use crate::reading::Reading;
-use crate::reading::read_at;
+use crate::reading::cut_at;
 use machine::Actions;
+use machine::AnchorEvents;
 use machine::Anchors;
 use machine::Binds;
+use machine::Check;
 use machine::Document;
 use machine::Links;
 use machine::LoadAnswer;
 use machine::Loaded;
+use machine::NodeEvents;
 use machine::Nodes;
 use machine::Ports;
+use machine::PropertyEvents;
 use machine::Refusal;
 use machine::Rules;
 use machine::Session;
 use machine::State;
+use machine::terms;
+use records::tables::body_length;
 ghost use mathlib.Core.Path.{_≡_};
+ghost use Prim.Native.Nat.{_<_};
+ghost use lib.ListN.{length};
 ghost use Rattle.machine.specs.Tables.{emptyDocument, newState, emptySession};
-ghost use Rattle.machine.specs.Load.{loadRefused, finished, load};
-ghost use Rattle.machine.specs.Answers.{numberOf};
-ghost use Rattle.document.specs.Loading.{loadResult, refusalIn};
+ghost use Rattle.machine.specs.Load.{good, unless, checked, placeFault, loadRefused, finished, load};
+ghost use Rattle.machine.specs.Answers.{numberOf, checkNumber, loadAnswer};
+ghost use Rattle.document.specs.Reading.{cutFrom, readingOf, answerOf};
+ghost use Rattle.document.specs.Loading.{loadResult};
 
 fn empty_document() -> Document
     ensures { λ r. ⌜ r ≡ emptyDocument ⌝ }
@@ -81,13 +92,19 @@ fn new_state() -> State
     ensures { λ r. ⌜ r ≡ newState ⌝ }
 {
     State {
-        node_state: [0u8; 64],
-        node_clock: [0u16; 64],
-        node_count: [0u32; 64],
-        anchor_state: [0u8; 128],
-        anchor_count: [0u32; 128],
-        property_value: [0i32; 32],
-        property_count: [0u32; 32],
+        nodes: NodeEvents {
+            states: [terms::SLEEPING; 64],
+            clocks: [0u16; 64],
+            counts: [0u32; 64],
+        },
+        anchors: AnchorEvents {
+            states: [terms::SLEEPING; 128],
+            counts: [0u32; 128],
+        },
+        properties: PropertyEvents {
+            values: [0i32; 32],
+            counts: [0u32; 32],
+        },
     }
 }
 
@@ -111,7 +128,7 @@ fn refuse(refusal: Refusal) -> Loaded
 
 // After the last record.
 fn finish(s: Session) -> Loaded
-    ensures { λ r. ⌜ loadResult r ≡ finished s ⌝ }
+    ensures { λ r. ⌜ loadResult r ≡ finished (good s) ⌝ }
 {
     let d = s.document;
     if d.limit == 0 {
@@ -127,12 +144,36 @@ fn finish(s: Session) -> Loaded
     }
 }
 
-fn refusal_in(reading: Reading) -> Refusal
-    ensures { λ r. ⌜ r ≡ refusalIn reading ⌝ }
+// The reading, unless a check before it refuses.
+fn unless_refused(check: Check, reading: Reading) -> Reading
+    ensures { λ r. ⌜ readingOf r ≡ unless (checkNumber check) (readingOf reading) ⌝ }
+{
+    match check {
+        Check::Passed => reading,
+        Check::Refused(refusal) => Reading::Refused(refusal),
+    }
+}
+
+// The record that begins at a place of the document, checked.
+fn read_at(d: Document, document: &[u8], at: usize) -> Reading
+    requires { ⌜ at < length (now document) ⌝ }
+    ensures { λ r. ⌜ readingOf r ≡ checked placeFault d (cutFrom (now (document .entry)) at) ⌝ }
+{
+    let cut = cut_at(document, at);
+    let Reading::Read(record) = cut else {
+        return cut;
+    };
+    let place = check_place(d, record);
+    let fault = check_record(d, record);
+    unless_refused(place, unless_refused(fault, cut))
+}
+
+fn answer_of(reading: Reading) -> LoadAnswer
+    ensures { λ r. ⌜ loadAnswer r ≡ answerOf reading ⌝ }
 {
     match reading {
-        Reading::Refused(refusal) => refusal,
-        Reading::Read(_) => Refusal::BrokenSession,
+        Reading::Read(_) => LoadAnswer::Accepted,
+        Reading::Refused(refusal) => LoadAnswer::Refused(refusal),
     }
 }
 
@@ -144,11 +185,14 @@ pub fn load(document: &[u8]) -> Loaded
     while at < document.len() {
         let d = s.document;
         let reading = read_at(d, document, at);
-        let Reading::Read(read) = reading else {
-            return refuse(refusal_in(reading));
+        let Reading::Read(record) = reading else {
+            return Loaded {
+                answer: answer_of(reading),
+                session: empty_session(),
+            };
         };
-        let size = records::tables::body_length(base::index_of(document[at]));
-        s = enter(s, read);
+        let size = body_length(base::index_of(document[at]));
+        s = enter(s, record);
         at = at + 1 + size;
     }
     finish(s)

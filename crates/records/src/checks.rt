@@ -3,33 +3,30 @@
 use machine::ActionRecord;
 use machine::AnchorRecord;
 use machine::BindRecord;
+use machine::Check;
 use machine::LinkRecord;
 use machine::NodeRecord;
 use machine::PortRecord;
 use machine::Refusal;
 use machine::RuleRecord;
+use machine::terms;
 ghost use mathlib.Core.Path.{_≡_};
 ghost use mathlib.Core.Bool.{true, _&&_, _||_};
-ghost use Prim.Native.Nat.{_<_, _≤_};
 ghost use Rattle.base.specs.Tests.{if_then_else_, _=?_, _<?_};
 ghost use Rattle.base.specs.Loops.{some};
 ghost use Rattle.machine.specs.declared.Nodes.{Nodes};
 ghost use Rattle.machine.specs.declared.Document.{Document};
+ghost use Rattle.machine.specs.Terms.{context, media, noId};
 ghost use Rattle.machine.specs.Tables.{typeOf, durationOf, parentOf};
 ghost use Rattle.machine.specs.Records.{nodeFieldsRight, nodeFault, anchorFault, propertyFault, simpleRuleFault, compositeRuleFault, ruleFault, isDefault, bindFault, isPort, portFault, transitionRight, subjectGiven, linkFault, actionRight, targetGiven, actionFault};
-ghost use Rattle.records.specs.Checks.{checkNumber};
-
-pub enum Check {
-    Passed,
-    Refused(Refusal),
-}
+ghost use Rattle.machine.specs.Answers.{checkNumber};
 
 // ---- node
 
 fn duration_right(node_type: u8, duration: u16) -> bool
-    ensures { λ b. ⌜ b ≡ «node_type» =? 1 || duration =? 0 ⌝ }
+    ensures { λ b. ⌜ b ≡ «node_type» =? media || duration =? 0 ⌝ }
 {
-    if node_type == 1 {
+    if node_type == terms::MEDIA {
         return true;
     }
     duration == 0
@@ -37,21 +34,21 @@ fn duration_right(node_type: u8, duration: u16) -> bool
 
 // Node 0 is a context with parent 255.
 fn place_right(id: usize, node_type: u8, parent: u8) -> bool
-    ensures { λ b. ⌜ b ≡ (if id =? 0 then «node_type» =? 0 && parent =? 255 else true) ⌝ }
+    ensures { λ b. ⌜ b ≡ (if id =? 0 then «node_type» =? context && parent =? noId else true) ⌝ }
 {
     if id != 0 {
         return true;
     }
-    if node_type != 0 {
+    if node_type != terms::CONTEXT {
         return false;
     }
-    parent == 255
+    parent == terms::NO_ID
 }
 
 fn node_fields_right(id: usize, r: NodeRecord) -> bool
     ensures { λ b. ⌜ b ≡ nodeFieldsRight id r ⌝ }
 {
-    if 2 < r.node_type {
+    if terms::SWITCH < r.node_type {
         return false;
     }
     if duration_right(r.node_type, r.duration) {
@@ -62,7 +59,8 @@ fn node_fields_right(id: usize, r: NodeRecord) -> bool
 
 // A node whose parent has this type.
 pub fn check_node(id: usize, r: NodeRecord, parent_type: u8) -> Check
-    ensures { λ c. ⌜ ((nodes : Nodes) → typeOf nodes (r .parent) ≡ «parent_type» → checkNumber c ≡ nodeFault nodes id r) ⌝ }
+    ensures { λ c. ⌜ ((nodes : Nodes) → typeOf nodes (r .parent) ≡ «parent_type»
+        → checkNumber c ≡ nodeFault nodes id r) ⌝ }
 {
     if 64 <= id {
         return Check::Refused(Refusal::TableFull);
@@ -76,7 +74,7 @@ pub fn check_node(id: usize, r: NodeRecord, parent_type: u8) -> Check
     if id <= r.parent as usize {
         return Check::Refused(Refusal::UnknownId);
     }
-    if parent_type == 1 {
+    if parent_type == terms::MEDIA {
         return Check::Refused(Refusal::UnknownId);
     }
     Check::Passed
@@ -92,7 +90,11 @@ pub fn check_anchor(
     media_type: u8,
     duration: u16,
 ) -> Check
-    ensures { λ c. ⌜ ((t : Nodes) → t .count ≡ nodes → typeOf t (r .media) ≡ «media_type» → durationOf t (r .media) ≡ duration → checkNumber c ≡ anchorFault t id r) ⌝ }
+    ensures { λ c. ⌜ ((t : Nodes)
+        → t .count ≡ nodes
+        → typeOf t (r .media) ≡ «media_type»
+        → durationOf t (r .media) ≡ duration
+        → checkNumber c ≡ anchorFault t id r) ⌝ }
 {
     if 128 <= id {
         return Check::Refused(Refusal::TableFull);
@@ -103,7 +105,7 @@ pub fn check_anchor(
     if nodes <= r.media as usize {
         return Check::Refused(Refusal::UnknownId);
     }
-    if media_type != 1 {
+    if media_type != terms::MEDIA {
         return Check::Refused(Refusal::UnknownId);
     }
     if duration == 0 {
@@ -162,7 +164,7 @@ pub fn check_rule(properties: usize, id: usize, r: RuleRecord) -> Check
     if 32 <= id {
         return Check::Refused(Refusal::TableFull);
     }
-    if r.kind == 4 {
+    if r.kind == terms::SIMPLE_RULE {
         return check_simple_rule(properties, r);
     }
     check_composite_rule(id, r)
@@ -172,9 +174,9 @@ pub fn check_rule(properties: usize, id: usize, r: RuleRecord) -> Check
 
 // No rule, or one that is given.
 fn rule_given(rule: u8, rules: usize) -> bool
-    ensures { λ b. ⌜ b ≡ rule =? 255 || rule <? rules ⌝ }
+    ensures { λ b. ⌜ b ≡ rule =? noId || rule <? rules ⌝ }
 {
-    if rule == 255 {
+    if rule == terms::NO_ID {
         return true;
     }
     (rule as usize) < rules
@@ -190,7 +192,13 @@ pub fn check_bind(
     child_parent: u8,
     has_default: bool,
 ) -> Check
-    ensures { λ c. ⌜ ((d : Document) → d .nodes .count ≡ nodes → d .rules .count ≡ rules → typeOf (d .nodes) (r .switch) ≡ «switch_type» → parentOf (d .nodes) (r .child) ≡ «child_parent» → some (isDefault (d .binds) (r .switch)) id ≡ «has_default» → checkNumber c ≡ bindFault d id r) ⌝ }
+    ensures { λ c. ⌜ ((d : Document)
+        → d .nodes .count ≡ nodes
+        → d .rules .count ≡ rules
+        → typeOf (d .nodes) (r .switch) ≡ «switch_type»
+        → parentOf (d .nodes) (r .child) ≡ «child_parent»
+        → some (isDefault (d .binds) (r .switch)) id ≡ «has_default»
+        → checkNumber c ≡ bindFault d id r) ⌝ }
 {
     if 64 <= id {
         return Check::Refused(Refusal::TableFull);
@@ -198,7 +206,7 @@ pub fn check_bind(
     if nodes <= r.switch as usize {
         return Check::Refused(Refusal::UnknownId);
     }
-    if switch_type != 2 {
+    if switch_type != terms::SWITCH {
         return Check::Refused(Refusal::UnknownId);
     }
     if nodes <= r.child as usize {
@@ -210,7 +218,7 @@ pub fn check_bind(
     if child_parent != r.switch {
         return Check::Refused(Refusal::Conflict);
     }
-    if r.rule != 255 {
+    if r.rule != terms::NO_ID {
         return Check::Passed;
     }
     if has_default {
@@ -221,16 +229,21 @@ pub fn check_bind(
 
 // ---- port
 
-// A port among so many nodes, by the type of its context, the parent of its child, and whether there is the same port already.
+// A port among so many nodes, by the type of its context, the parent of its child, and whether the context has the same port already.
 pub fn check_port(
     id: usize,
     r: PortRecord,
     nodes: usize,
     context_type: u8,
     child_parent: u8,
-    is_there: bool,
+    has_same_port: bool,
 ) -> Check
-    ensures { λ c. ⌜ ((d : Document) → d .nodes .count ≡ nodes → typeOf (d .nodes) (r .context) ≡ «context_type» → parentOf (d .nodes) (r .child) ≡ «child_parent» → some (isPort (d .ports) r) id ≡ «is_there» → checkNumber c ≡ portFault d id r) ⌝ }
+    ensures { λ c. ⌜ ((d : Document)
+        → d .nodes .count ≡ nodes
+        → typeOf (d .nodes) (r .context) ≡ «context_type»
+        → parentOf (d .nodes) (r .child) ≡ «child_parent»
+        → some (isPort (d .ports) r) id ≡ «has_same_port»
+        → checkNumber c ≡ portFault d id r) ⌝ }
 {
     if 64 <= id {
         return Check::Refused(Refusal::TableFull);
@@ -238,7 +251,7 @@ pub fn check_port(
     if nodes <= r.context as usize {
         return Check::Refused(Refusal::UnknownId);
     }
-    if context_type != 0 {
+    if context_type != terms::CONTEXT {
         return Check::Refused(Refusal::UnknownId);
     }
     if nodes <= r.child as usize {
@@ -247,7 +260,7 @@ pub fn check_port(
     if child_parent != r.context {
         return Check::Refused(Refusal::Conflict);
     }
-    if is_there {
+    if has_same_port {
         return Check::Refused(Refusal::Conflict);
     }
     Check::Passed
@@ -258,35 +271,39 @@ pub fn check_port(
 fn transition_right(class: u8, transition: u8) -> bool
     ensures { λ b. ⌜ b ≡ transitionRight class transition ⌝ }
 {
-    if transition < 1 {
+    if transition < terms::STARTS {
         return false;
     }
-    if class == 1 {
-        return transition <= 5;
+    if class == terms::OF_NODE {
+        return transition <= terms::RESUMES;
     }
-    if class == 2 {
-        return transition <= 5;
+    if class == terms::OF_ANCHOR {
+        return transition <= terms::RESUMES;
     }
-    if class == 3 {
-        return transition <= 2;
+    if class == terms::OF_PROPERTY {
+        return transition <= terms::STOPS;
     }
-    if class == 4 {
-        return transition <= 1;
+    if class == terms::OF_KEY {
+        return transition <= terms::STARTS;
     }
     false
 }
 
 // Whether there is an event of this class and id among so many nodes, anchors and properties; a key is any byte.
 pub fn subject_given(class: u8, id: u8, nodes: usize, anchors: usize, properties: usize) -> bool
-    ensures { λ b. ⌜ ((d : Document) → d .nodes .count ≡ nodes → d .anchors .count ≡ anchors → d .properties ≡ properties → b ≡ subjectGiven d class id) ⌝ }
+    ensures { λ b. ⌜ ((d : Document)
+        → d .nodes .count ≡ nodes
+        → d .anchors .count ≡ anchors
+        → d .properties ≡ properties
+        → b ≡ subjectGiven d class id) ⌝ }
 {
-    if class == 1 {
+    if class == terms::OF_NODE {
         return (id as usize) < nodes;
     }
-    if class == 2 {
+    if class == terms::OF_ANCHOR {
         return (id as usize) < anchors;
     }
-    if class == 3 {
+    if class == terms::OF_PROPERTY {
         return (id as usize) < properties;
     }
     true
@@ -302,7 +319,13 @@ pub fn check_link(
     rules: usize,
     owner_type: u8,
 ) -> Check
-    ensures { λ c. ⌜ ((d : Document) → d .nodes .count ≡ nodes → d .anchors .count ≡ anchors → d .properties ≡ properties → d .rules .count ≡ rules → typeOf (d .nodes) (r .owner) ≡ «owner_type» → checkNumber c ≡ linkFault d id r) ⌝ }
+    ensures { λ c. ⌜ ((d : Document)
+        → d .nodes .count ≡ nodes
+        → d .anchors .count ≡ anchors
+        → d .properties ≡ properties
+        → d .rules .count ≡ rules
+        → typeOf (d .nodes) (r .owner) ≡ «owner_type»
+        → checkNumber c ≡ linkFault d id r) ⌝ }
 {
     if 64 <= id {
         return Check::Refused(Refusal::TableFull);
@@ -313,7 +336,7 @@ pub fn check_link(
     if nodes <= r.owner as usize {
         return Check::Refused(Refusal::UnknownId);
     }
-    if owner_type != 0 {
+    if owner_type != terms::CONTEXT {
         return Check::Refused(Refusal::UnknownId);
     }
     if !subject_given(r.class, r.subject, nodes, anchors, properties) {
@@ -331,13 +354,13 @@ pub fn check_link(
 pub fn action_right(action: u8, value: i32) -> bool
     ensures { λ b. ⌜ b ≡ actionRight action value ⌝ }
 {
-    if action < 1 {
+    if action < terms::TO_START {
         return false;
     }
-    if 6 < action {
+    if terms::TO_SET < action {
         return false;
     }
-    if action == 6 {
+    if action == terms::TO_SET {
         return true;
     }
     value == 0
@@ -345,9 +368,10 @@ pub fn action_right(action: u8, value: i32) -> bool
 
 // Whether an action's target is given among so many nodes and properties.
 pub fn target_given(action: u8, target: u8, nodes: usize, properties: usize) -> bool
-    ensures { λ b. ⌜ ((d : Document) → d .nodes .count ≡ nodes → d .properties ≡ properties → b ≡ targetGiven d action target) ⌝ }
+    ensures { λ b. ⌜ ((d : Document) → d .nodes .count ≡ nodes → d .properties ≡ properties
+        → b ≡ targetGiven d action target) ⌝ }
 {
-    if action == 6 {
+    if action == terms::TO_SET {
         return (target as usize) < properties;
     }
     (target as usize) < nodes
@@ -361,7 +385,11 @@ pub fn check_action(
     nodes: usize,
     properties: usize,
 ) -> Check
-    ensures { λ c. ⌜ ((d : Document) → d .links .count ≡ links → d .nodes .count ≡ nodes → d .properties ≡ properties → checkNumber c ≡ actionFault d id r) ⌝ }
+    ensures { λ c. ⌜ ((d : Document)
+        → d .links .count ≡ links
+        → d .nodes .count ≡ nodes
+        → d .properties ≡ properties
+        → checkNumber c ≡ actionFault d id r) ⌝ }
 {
     if 8 <= id {
         return Check::Refused(Refusal::TableFull);

@@ -1,9 +1,29 @@
-// Fields of several bytes, the low byte first.
+// Entries of a table or body, 0 past its end, and fields of several bytes, the low byte first.
+use machine::ActionRecord;
 ghost use mathlib.Core.Path.{_≡_};
-ghost use Prim.Native.Nat.{_<_, _+_, _*_};
+ghost use Prim.Native.Nat.{_<_, _≤_, _+_, _*_};
 ghost use lib.IntN.{negsuc};
-ghost use lib.ListN.{length};
+ghost use lib.ListN.{getD};
 ghost use Rattle.machine.specs.Fields.{u16, u32, signed, i32};
+ghost use Rattle.machine.specs.Records.{actionOf};
+
+pub fn byte_at(table: &[u8], at: usize) -> u8
+    ensures { λ r. ⌜ r ≡ getD (now (table .entry)) at 0 ⌝ }
+{
+    if at < table.len() {
+        return table[at];
+    }
+    0
+}
+
+pub fn number_at(table: &[u16], at: usize) -> u16
+    ensures { λ r. ⌜ r ≡ getD (now (table .entry)) at 0 ⌝ }
+{
+    if at < table.len() {
+        return table[at];
+    }
+    0
+}
 
 fn u16_of(low: u8, high: u8) -> u16
     ensures { λ r. ⌜ r ≡ low + 256 * high ⌝ }
@@ -11,11 +31,13 @@ fn u16_of(low: u8, high: u8) -> u16
     low as u16 + 256 * (high as u16)
 }
 
+// Places of fields are small, so that the sums below do not overflow.
+
 pub fn u16_at(body: &[u8], at: usize) -> u16
-    requires { ⌜ at + 1 < length (now body) ⌝ }
+    requires { ⌜ at ≤ 255 ⌝ }
     ensures { λ r. ⌜ r ≡ u16 (now (body .entry)) at ⌝ }
 {
-    u16_of(body[at], body[at + 1])
+    u16_of(byte_at(body, at), byte_at(body, at + 1))
 }
 
 fn u32_of(a: u8, b: u8, c: u8, d: u8) -> u32
@@ -25,10 +47,15 @@ fn u32_of(a: u8, b: u8, c: u8, d: u8) -> u32
 }
 
 fn u32_at(body: &[u8], at: usize) -> u32
-    requires { ⌜ at + 3 < length (now body) ⌝ }
+    requires { ⌜ at ≤ 255 ⌝ }
     ensures { λ r. ⌜ r ≡ u32 (now (body .entry)) at ⌝ }
 {
-    u32_of(body[at], body[at + 1], body[at + 2], body[at + 3])
+    u32_of(
+        byte_at(body, at),
+        byte_at(body, at + 1),
+        byte_at(body, at + 2),
+        byte_at(body, at + 3),
+    )
 }
 
 // -1 - m, for a number m below 2^31.
@@ -50,8 +77,19 @@ fn signed_of(n: u32) -> i32
 }
 
 pub fn i32_at(body: &[u8], at: usize) -> i32
-    requires { ⌜ at + 3 < length (now body) ⌝ }
+    requires { ⌜ at ≤ 255 ⌝ }
     ensures { λ r. ⌜ r ≡ i32 (now (body .entry)) at ⌝ }
 {
     signed_of(u32_at(body, at))
+}
+
+// The fields of an action; a command in a script has the same.
+pub fn action_of(body: &[u8]) -> ActionRecord
+    ensures { λ r. ⌜ r ≡ actionOf (now (body .entry)) ⌝ }
+{
+    ActionRecord {
+        action: byte_at(body, 0),
+        target: byte_at(body, 1),
+        value: i32_at(body, 2),
+    }
 }

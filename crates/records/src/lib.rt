@@ -1,5 +1,4 @@
-// The records of a document: the constant tables, the fields of a body, and the checks of one record, which loading and the session check share; and the number of a refusal.
+// The records of a document: the constant tables, the fields of a body, and the checks of one record, which loading and the session check share.
 pub mod checks;
 pub mod fields;
-pub mod refusals;
 pub mod tables;

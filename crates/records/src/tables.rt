@@ -1,27 +1,39 @@
 // The constant tables of the engine.
+use crate::fields::byte_at;
+use machine::terms::OCCURRING;
+use machine::terms::PAUSED;
+use machine::terms::SLEEPING;
 ghost use mathlib.Core.Path.{_≡_};
 ghost use Prim.Native.Nat.{_<_, _≤_};
+ghost use Rattle.machine.specs.Terms.{toStart, toResume};
 ghost use Rattle.machine.specs.Records.{bodyLength};
 ghost use Rattle.machine.specs.Events.{nextState};
+
+// Kinds are 0 to 9.
+pub const GREATEST_KIND: usize = 9;
 
 // The length of a record's body, by its kind.
 const BODY_LENGTHS: [u8; 10] = [1, 4, 5, 4, 6, 3, 3, 2, 5, 6];
 
-// The next state of a media: a row for each state, a column for each action from 1 to 5.
-const NEXT_STATES: [[u8; 5]; 3] = [[1, 0, 0, 0, 0], [1, 0, 0, 2, 1], [2, 0, 0, 2, 1]];
+// The next state of a media. A row for each state; columns: start, stop, abort, pause, resume.
+const NEXT_STATES: [[u8; 5]; 3] = [
+    [OCCURRING, SLEEPING, SLEEPING, SLEEPING, SLEEPING],
+    [OCCURRING, SLEEPING, SLEEPING, PAUSED, OCCURRING],
+    [PAUSED, SLEEPING, SLEEPING, PAUSED, OCCURRING],
+];
 
 pub fn body_length(kind: usize) -> usize
-    requires { ⌜ kind < 10 ⌝ }
-    ensures { λ r. ⌜ r ≡ bodyLength kind ⌝ }
+    ensures { λ r. ⌜ (r ≡ bodyLength kind) × (r < 256) ⌝ }
 {
-    base::index_of(BODY_LENGTHS[kind])
+    let lengths = BODY_LENGTHS;
+    base::index_of(byte_at(&lengths, kind))
 }
 
 pub fn next_state(state: u8, action: u8) -> u8
-    requires { ⌜ (1 ≤ action) × (action ≤ 5) ⌝ }
+    requires { ⌜ (toStart ≤ action) × (action ≤ toResume) ⌝ }
     ensures { λ r. ⌜ r ≡ nextState state action ⌝ }
 {
-    if 2 < state {
+    if PAUSED < state {
         return state;
     }
     let row = base::index_of(state);

@@ -7,6 +7,7 @@ use borrow.Author.Tests.{lt-leb, leb-true, leb-false}
 use Rattle.base.specs.Tests.{if_then_else_, by-test, both-pass, _=?_, _≤?_}
 use Rattle.base.specs.Loops.{every, each-every, every-fails, every-within}
 use Rattle.machine.specs.declared.Document.{Document}
+use Rattle.machine.specs.Terms.{simpleRule, compositeRule}
 use Rattle.machine.specs.Tables.{ruleAt}
 use Rattle.machine.specs.Records.{nodeFault, anchorFault, propertyFault, ruleFault, bindFault, portFault, linkFault, actionFault}
 use Rattle.machine.specs.Broken.{nodeObeys, anchorObeys, propertyObeys, ruleUnusedZero, ruleObeys, bindObeys, portObeys, linkObeys, actionObeys, tablesObey}
@@ -35,7 +36,7 @@ module _ (d : Document) where
   unfolding ruleObeys ruleFault if_then_else_
   full-rules =
       let r = ruleAt (d .rules) 32 in
-      ap (λ (b : Bool). b && ruleUnusedZero r) (and-false (r .kind =? 4 || r .kind =? 5))
+      ap (λ (b : Bool). b && ruleUnusedZero r) (and-false (r .kind =? simpleRule || r .kind =? compositeRule))
 
   pub full-binds : bindObeys d 64 ≡ false
   unfolding bindObeys bindFault if_then_else_

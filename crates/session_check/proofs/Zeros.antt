@@ -1,102 +1,47 @@
--- Zeros to a table's end, walked from its first place: of numbers and of signed numbers.
-use mathlib.Core.Path.{_≡_, refl, sym, ap, _∙_}
-use mathlib.Core.Bool.{Bool, true, _&&_, and-assoc, and-true}
+-- Zeros to a table's end, walked from its first place: the entries of a column, and the actions of the links.
+use mathlib.Core.Path.{_≡_, sym, _∙_}
+use mathlib.Core.Bool.{Bool, _&&_, and-assoc, and-true}
 use mathlib.Core.List.{List, [], _∷_}
 use Prim.Native.Nat.{ℕ, _+_, _*_, _≤_, _<_}
 use native.Mathlib.Numerals.{add-one}
 use native.Mathlib.Omega.{arith}
-use lib.IntN.{ℤ, pos}
 use lib.ListN.{length, getD, take, drop, drop-of-length-le}
 use lib.Seq.{drop-cons, drop-drop}
-use Rattle.base.specs.Tests.{_=?_, equalInts}
-use Rattle.machine.specs.Broken.{allZero, allZeroInts, slotsZero, slotIntsZero}
+use lib.IntN.{ℤ}
+use Rattle.machine.specs.Tables.{numbers, integers, actionTables}
+use Rattle.machine.specs.Broken.{all, zeroFrom, endsZero}
 
-pub record Zeros (A : Type 0) : Type 0 where
-  pub zero : A
-  pub isZero : A → Bool
-  pub all : List A → Bool
-  pub all-none : all [] ≡ true
-  pub all-more : (x : A) (xs : List A) → all (x ∷ xs) ≡ (isZero x && all xs)
-  pub slots : List ℕ → List A → Bool
-  pub slots-none : (s : List A) → slots [] s ≡ true
-  pub slots-more : (n : ℕ) (counts : List ℕ) (s : List A) → slots (n ∷ counts) s ≡ (all (drop n (take 8 s)) && slots counts (drop 8 s))
+-- tests joined one after the other, as the code joins them
+abbrev pub after : Bool → List Bool → Bool
+after b [] = b
+after b (x ∷ xs) = after (b && x) xs
 
-pub number-none : allZero [] ≡ true
-unfolding allZero
-number-none = refl
-
-pub number-more : (x : ℕ) (xs : List ℕ) → allZero (x ∷ xs) ≡ (x =? 0 && allZero xs)
-unfolding allZero
-number-more x xs = refl
-
-pub number-slots-none : (s : List ℕ) → slotsZero [] s ≡ true
-unfolding slotsZero
-number-slots-none s = refl
-
-pub number-slots-more : (n : ℕ) (counts s : List ℕ) → slotsZero (n ∷ counts) s ≡ (allZero (drop n (take 8 s)) && slotsZero counts (drop 8 s))
-unfolding slotsZero
-number-slots-more n counts s = refl
-
-pub integer-none : allZeroInts [] ≡ true
-unfolding allZeroInts
-integer-none = refl
-
-pub integer-more : (x : ℤ) (xs : List ℤ) → allZeroInts (x ∷ xs) ≡ (equalInts x (pos 0) && allZeroInts xs)
-unfolding allZeroInts
-integer-more x xs = refl
-
-pub integer-slots-none : (s : List ℤ) → slotIntsZero [] s ≡ true
-unfolding slotIntsZero
-integer-slots-none s = refl
-
-pub integer-slots-more : (n : ℕ) (counts : List ℕ) (s : List ℤ) → slotIntsZero (n ∷ counts) s ≡ (allZeroInts (drop n (take 8 s)) && slotIntsZero counts (drop 8 s))
-unfolding slotIntsZero
-integer-slots-more n counts s = refl
-
-abbrev pub numbers : Zeros ℕ
-numbers = record {
-  zero = 0;
-  isZero = λ x. x =? 0;
-  all = allZero;
-  all-none = number-none;
-  all-more = number-more;
-  slots = slotsZero;
-  slots-none = number-slots-none;
-  slots-more = number-slots-more;
-}
-
-abbrev pub integers : Zeros ℤ
-integers = record {
-  zero = pos 0;
-  isZero = λ x. equalInts x (pos 0);
-  all = allZeroInts;
-  all-none = integer-none;
-  all-more = integer-more;
-  slots = slotIntsZero;
-  slots-none = integer-slots-none;
-  slots-more = integer-slots-more;
-}
+pub joined : (b : Bool) (xs : List Bool) → after b xs ≡ (b && all (λ x. x) xs)
+unfolding all
+joined b [] = sym (and-true b)
+joined b (x ∷ xs) = joined (b && x) xs ∙ and-assoc b x (all (λ x. x) xs)
 
 -- a loop that joins the tests of the entries: one turn, and the end
-module _ {A : Type 0} (z : Zeros A) (table : List A) (i : ℕ) (b : Bool) {x : Bool} (e : (b && z .all (drop i table)) ≡ x) where
-  pub zeros-more : i < length table → (b && z .isZero (getD table i (z .zero)) && z .all (drop (i + 1) table)) ≡ x
-  zeros-more h =
-      and-assoc b (z .isZero (getD table i (z .zero))) (z .all (drop (i + 1) table))
-      ∙ ap (λ (t : Bool). b && t) (sym (ap (z .all) (drop-cons table i (z .zero) h) ∙ z .all-more _ _ ∙ rw add-one))
-      ∙ e
+module _ {A : Type 0} (test : A → Bool) (l : List A) (i : ℕ) (b : Bool) {x : Bool} (e : (b && all test (drop i l)) ≡ x) where
+  pub zeros-more : (z : A) → i < length l → (b && test (getD l i z) && all test (drop (i + 1) l)) ≡ x
+  unfolding all
+  zeros-more z h = rw (and-assoc, add-one) (rw (drop-cons l i z h) at e)
 
-  pub zeros-done : length table ≤ i → b ≡ x
-  zeros-done h = sym (ap (λ (t : Bool). b && t) (ap (z .all) (drop-of-length-le table h) ∙ z .all-none) ∙ and-true b) ∙ e
+  pub zeros-done : length l ≤ i → b ≡ x
+  unfolding all
+  zeros-done h = rw (drop-of-length-le l h, and-true) at e
 
--- the same for the slots of link l
-module _ {A : Type 0} (z : Zeros A) (counts : List ℕ) (table : List A) (l : ℕ) (b : Bool) {x : Bool} (e : (b && z .slots (drop l counts) (drop (8 * l) table)) ≡ x) where
-  pub slots-more : l < length counts → (b && z .all (drop (getD counts l 0) (take 8 (drop (8 * l) table))) && z .slots (drop (l + 1) counts) (drop (8 * (l + 1)) table)) ≡ x
+-- the same for the actions of link l
+module _ (counts actions targets : List ℕ) (values : List ℤ) (l : ℕ) (b : Bool) {x : Bool}
+    (e : (b && all endsZero (actionTables (drop l counts) (drop (8 * l) actions) (drop (8 * l) targets) (drop (8 * l) values))) ≡ x) where
+  pub slots-more : l < length counts → let n = getD counts l 0 in
+      (b && zeroFrom n (numbers (take 8 (drop (8 * l) actions))) && zeroFrom n (numbers (take 8 (drop (8 * l) targets))) && zeroFrom n (integers (take 8 (drop (8 * l) values)))
+      && all endsZero (actionTables (drop (l + 1) counts) (drop (8 * (l + 1)) actions) (drop (8 * (l + 1)) targets) (drop (8 * (l + 1)) values))) ≡ x
+  unfolding all
   slots-more h =
       let s : 8 * (l + 1) ≡ 8 * l + 8 = omega arith in
-      and-assoc b (z .all (drop (getD counts l 0) (take 8 (drop (8 * l) table)))) (z .slots (drop (l + 1) counts) (drop (8 * (l + 1)) table))
-      ∙ ap (λ (t : Bool). b && t)
-      (sym (ap (λ (c : List ℕ). z .slots c (drop (8 * l) table)) (drop-cons counts l 0 h) ∙ z .slots-more _ _ _ ∙ rw (drop-drop, s, add-one)))
-      ∙ e
+      rw s (simp (and-assoc, add-one) (simp (drop-drop, and-assoc, and-true) at (rw (drop-cons counts l 0 h) at e)))
 
   pub slots-done : length counts ≤ l → b ≡ x
-  slots-done h = sym (rw (drop-of-length-le counts h) (ap (λ (t : Bool). b && t) (z .slots-none _) ∙ and-true b)) ∙ e
+  unfolding all
+  slots-done h = rw (drop-of-length-le counts h, and-true) at e

@@ -1,6 +1,5 @@
 // Whether a session is broken. Any session may be handed in: its counts may be any numbers, its bytes any bytes.
 mod ends;
-mod entries;
 mod states;
 mod tables;
 
@@ -16,9 +15,6 @@ pub fn is_broken(s: Session) -> bool
     if !tables::tables_obey(d) {
         return true;
     }
-    let nodes = d.nodes;
-    let anchors = d.anchors;
-    let zero = ends::document_ends_zero(d)
-        & ends::state_ends_zero(nodes.count, anchors.count, d.properties, state);
+    let zero = ends::document_ends_zero(d) & ends::state_ends_zero(d, state);
     !(zero & states::states_right(d, state))
 }

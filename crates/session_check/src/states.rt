@@ -1,11 +1,14 @@
 // The states obey the rules of composites, anchors and clocks.
-use super::entries::byte_at;
-use super::entries::number_at;
 use base::index_of;
+use machine::AnchorEvents;
 use machine::Anchors;
 use machine::Document;
+use machine::NodeEvents;
 use machine::Nodes;
 use machine::State;
+use machine::terms;
+use records::fields::byte_at;
+use records::fields::number_at;
 ghost use mathlib.Core.Path.{_≡_};
 ghost use Prim.Native.Nat.{ℕ, _<_, _≤_};
 ghost use Rattle.base.specs.Tests.{if_then_else_};
@@ -38,18 +41,23 @@ fn state_of_children(occurs: bool, pauses: bool) -> u8
     ensures { λ r. ⌜ r ≡ (if occurs then occurring else if pauses then paused else sleeping) ⌝ }
 {
     if occurs {
-        return 1;
+        return terms::OCCURRING;
     }
     if pauses {
-        return 2;
+        return terms::PAUSED;
     }
-    0
+    terms::SLEEPING
 }
 
 fn clock_right(node_type: u8, duration: u16, state: u8, clock: u16) -> bool
-    ensures { λ b. ⌜ ((d : Document) (s : State) (n : ℕ) → typeOf (d .nodes) n ≡ «node_type» → durationOf (d .nodes) n ≡ duration → nodeState s n ≡ state → nodeClock s n ≡ clock → b ≡ clockRight d s n) ⌝ }
+    ensures { λ b. ⌜ ((d : Document) (s : State) (n : ℕ)
+        → typeOf (d .nodes) n ≡ «node_type»
+        → durationOf (d .nodes) n ≡ duration
+        → nodeState s n ≡ state
+        → nodeClock s n ≡ clock
+        → b ≡ clockRight d s n) ⌝ }
 {
-    if (node_type == 1) & (state != 0) {
+    if (node_type == terms::MEDIA) & (state != terms::SLEEPING) {
         return (duration == 0) | (clock < duration);
     }
     clock == 0
@@ -57,20 +65,27 @@ fn clock_right(node_type: u8, duration: u16, state: u8, clock: u16) -> bool
 
 // A node in this state, whose children give the other one.
 fn node_right(node_type: u8, duration: u16, state: u8, clock: u16, children: u8) -> bool
-    ensures { λ b. ⌜ ((d : Document) (s : State) (n : ℕ) → typeOf (d .nodes) n ≡ «node_type» → durationOf (d .nodes) n ≡ duration → nodeState s n ≡ state → nodeClock s n ≡ clock → childrenState (d .nodes) (s .«node_state») n ≡ children → b ≡ nodeRight d s n) ⌝ }
+    ensures { λ b. ⌜ ((d : Document) (s : State) (n : ℕ)
+        → typeOf (d .nodes) n ≡ «node_type»
+        → durationOf (d .nodes) n ≡ duration
+        → nodeState s n ≡ state
+        → nodeClock s n ≡ clock
+        → childrenState (d .nodes) (s .nodes .states) n ≡ children
+        → b ≡ nodeRight d s n) ⌝ }
 {
-    (state <= 2)
-        & ((node_type == 1) | (state == children))
+    (state <= terms::PAUSED)
+        & ((node_type == terms::MEDIA) | (state == children))
         & clock_right(node_type, duration, state, clock)
 }
 
-fn nodes_right(nodes: Nodes, s: State) -> bool
+fn nodes_right(nodes: Nodes, events: NodeEvents) -> bool
     requires { ⌜ nodes .count ≤ 64 ⌝ }
-    ensures { λ b. ⌜ ((d : Document) → d .nodes ≡ nodes → b ≡ every (nodeRight d s) (nodes .count)) ⌝ }
+    ensures { λ b. ⌜ ((d : Document) (s : State) → d .nodes ≡ nodes → s .nodes ≡ events
+        → b ≡ every (nodeRight d s) (nodes .count)) ⌝ }
 {
-    let states = s.node_state;
-    let occurs = with_child_in(nodes, states, 1);
-    let pauses = with_child_in(nodes, states, 2);
+    let states = events.states;
+    let occurs = with_child_in(nodes, states, terms::OCCURRING);
+    let pauses = with_child_in(nodes, states, terms::PAUSED);
     let count = nodes.count;
     let mut right = true;
     let mut next = 0;
@@ -82,8 +97,8 @@ fn nodes_right(nodes: Nodes, s: State) -> bool
             & node_right(
                 nodes.types[n],
                 nodes.durations[n],
-                s.node_state[n],
-                s.node_clock[n],
+                events.states[n],
+                events.clocks[n],
                 children,
             );
     }
@@ -92,17 +107,27 @@ fn nodes_right(nodes: Nodes, s: State) -> bool
 
 // An anchor in this state, whose media has this clock and is in the other one.
 fn anchor_right(begin: u16, end: u16, state: u8, clock: u16, media: u8) -> bool
-    ensures { λ b. ⌜ ((d : Document) (s : State) (a : ℕ) → anchorAt (d .anchors) a .begin ≡ begin → anchorAt (d .anchors) a .end ≡ end → anchorState s a ≡ state → nodeClock s (anchorAt (d .anchors) a .media) ≡ clock → nodeState s (anchorAt (d .anchors) a .media) ≡ media → b ≡ anchorRight d s a) ⌝ }
+    ensures { λ b. ⌜ ((d : Document) (s : State) (a : ℕ)
+        → anchorAt (d .anchors) a .begin ≡ begin
+        → anchorAt (d .anchors) a .end ≡ end
+        → anchorState s a ≡ state
+        → nodeClock s (anchorAt (d .anchors) a .media) ≡ clock
+        → nodeState s (anchorAt (d .anchors) a .media) ≡ media
+        → b ≡ anchorRight d s a) ⌝ }
 {
     if (begin <= clock) & (clock < end) {
         return state == media;
     }
-    state == 0
+    state == terms::SLEEPING
 }
 
-fn anchors_right(anchors: Anchors, s: State) -> bool
+fn anchors_right(anchors: Anchors, nodes: NodeEvents, events: AnchorEvents) -> bool
     requires { ⌜ anchors .count ≤ 128 ⌝ }
-    ensures { λ b. ⌜ ((d : Document) → d .anchors ≡ anchors → b ≡ every (anchorRight d s) (anchors .count)) ⌝ }
+    ensures { λ b. ⌜ ((d : Document) (s : State)
+        → d .anchors ≡ anchors
+        → s .nodes ≡ nodes
+        → s .anchors ≡ events
+        → b ≡ every (anchorRight d s) (anchors .count)) ⌝ }
 {
     let count = anchors.count;
     let mut right = true;
@@ -110,14 +135,14 @@ fn anchors_right(anchors: Anchors, s: State) -> bool
     while next < count {
         let a = next;
         next += 1;
-        let media = anchors.media[a];
-        let clock = number_at(&s.node_clock, media);
-        let state = byte_at(&s.node_state, media);
+        let media = index_of(anchors.media[a]);
+        let clock = number_at(&nodes.clocks, media);
+        let state = byte_at(&nodes.states, media);
         right = right
             & anchor_right(
                 anchors.begins[a],
                 anchors.ends[a],
-                s.anchor_state[a],
+                events.states[a],
                 clock,
                 state,
             );
@@ -129,7 +154,5 @@ pub fn states_right(d: Document, s: State) -> bool
     requires { ⌜ (d .nodes .count ≤ 64) × (d .anchors .count ≤ 128) ⌝ }
     ensures { λ b. ⌜ b ≡ statesRight d s ⌝ }
 {
-    let nodes = d.nodes;
-    let anchors = d.anchors;
-    nodes_right(nodes, s) & anchors_right(anchors, s)
+    nodes_right(d.nodes, s.nodes) & anchors_right(d.anchors, s.nodes, s.anchors)
 }

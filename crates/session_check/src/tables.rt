@@ -1,8 +1,5 @@
 // The tables obey the rules of loading: each entry is checked as the record that made it.
-use super::entries::byte_at;
-use super::entries::is_zero;
-use super::entries::number_at;
-use super::entries::passed;
+use super::ends::is_zero;
 use base::index_of;
 use machine::ActionRecord;
 use machine::Actions;
@@ -19,6 +16,8 @@ use machine::PortRecord;
 use machine::Ports;
 use machine::RuleRecord;
 use machine::Rules;
+use machine::passed;
+use machine::terms;
 use records::checks::check_action;
 use records::checks::check_anchor;
 use records::checks::check_bind;
@@ -26,6 +25,8 @@ use records::checks::check_link;
 use records::checks::check_node;
 use records::checks::check_port;
 use records::checks::check_rule;
+use records::fields::byte_at;
+use records::fields::number_at;
 ghost use mathlib.Core.Path.{_≡_};
 ghost use Prim.Native.Nat.{_<_};
 ghost use Rattle.base.specs.Loops.{every};
@@ -50,14 +51,15 @@ fn nodes_obey(nodes: Nodes) -> bool
             parent: parent,
             duration: nodes.durations[i],
         };
-        let check = check_node(i, record, byte_at(&nodes.types, parent));
+        let check = check_node(i, record, byte_at(&nodes.types, index_of(parent)));
         obey = obey & passed(check);
     }
     obey
 }
 
 fn anchors_obey(nodes: Nodes, anchors: Anchors) -> bool
-    ensures { λ b. ⌜ ((d : Document) → d .nodes ≡ nodes → d .anchors ≡ anchors → b ≡ every (anchorObeys d) (anchors .count)) ⌝ }
+    ensures { λ b. ⌜ ((d : Document) → d .nodes ≡ nodes → d .anchors ≡ anchors
+        → b ≡ every (anchorObeys d) (anchors .count)) ⌝ }
 {
     let count = anchors.count;
     if 128 < count {
@@ -74,8 +76,9 @@ fn anchors_obey(nodes: Nodes, anchors: Anchors) -> bool
             begin: anchors.begins[i],
             end: anchors.ends[i],
         };
-        let media_type = byte_at(&nodes.types, media);
-        let duration = number_at(&nodes.durations, media);
+        let m = index_of(media);
+        let media_type = byte_at(&nodes.types, m);
+        let duration = number_at(&nodes.durations, m);
         let check = check_anchor(i, record, nodes.count, media_type, duration);
         obey = obey & passed(check);
     }
@@ -91,21 +94,25 @@ fn properties_obey(properties: usize) -> bool
 fn rule_unused_zero(r: RuleRecord) -> bool
     ensures { λ b. ⌜ b ≡ ruleUnusedZero r ⌝ }
 {
-    if r.kind == 4 {
+    if r.kind == terms::SIMPLE_RULE {
         return (r.operator == 0) & (r.left == 0) & (r.right == 0);
     }
     (r.property == 0) & (r.comparator == 0) & is_zero(r.value)
 }
 
 fn rule_obeys(properties: usize, i: usize, r: RuleRecord) -> bool
-    ensures { λ b. ⌜ ((d : Document) → d .properties ≡ properties → ruleAt (d .rules) i ≡ r → b ≡ ruleObeys d i) ⌝ }
+    ensures { λ b. ⌜ ((d : Document) → d .properties ≡ properties → ruleAt (d .rules) i ≡ r
+        → b ≡ ruleObeys d i) ⌝ }
 {
     let check = check_rule(properties, i, r);
-    ((r.kind == 4) | (r.kind == 5)) & passed(check) & rule_unused_zero(r)
+    ((r.kind == terms::SIMPLE_RULE) | (r.kind == terms::COMPOSITE_RULE))
+        & passed(check)
+        & rule_unused_zero(r)
 }
 
 fn rules_obey(properties: usize, rules: Rules) -> bool
-    ensures { λ b. ⌜ ((d : Document) → d .properties ≡ properties → d .rules ≡ rules → b ≡ every (ruleObeys d) (rules .count)) ⌝ }
+    ensures { λ b. ⌜ ((d : Document) → d .properties ≡ properties → d .rules ≡ rules
+        → b ≡ every (ruleObeys d) (rules .count)) ⌝ }
 {
     let count = rules.count;
     if 32 < count {
@@ -132,7 +139,8 @@ fn rules_obey(properties: usize, rules: Rules) -> bool
 
 // A switch is marked where it has a default.
 fn binds_obey(nodes: Nodes, rules: usize, binds: Binds) -> bool
-    ensures { λ b. ⌜ ((d : Document) → d .nodes ≡ nodes → d .rules .count ≡ rules → d .binds ≡ binds → b ≡ every (bindObeys d) (binds .count)) ⌝ }
+    ensures { λ b. ⌜ ((d : Document) → d .nodes ≡ nodes → d .rules .count ≡ rules → d .binds ≡ binds
+        → b ≡ every (bindObeys d) (binds .count)) ⌝ }
 {
     let count = binds.count;
     if 64 < count {
@@ -152,9 +160,9 @@ fn binds_obey(nodes: Nodes, rules: usize, binds: Binds) -> bool
             child: child,
             rule: rule,
         };
-        let switch_type = byte_at(&nodes.types, switch);
-        let parent = byte_at(&nodes.parents, child);
         let s = index_of(switch);
+        let switch_type = byte_at(&nodes.types, s);
+        let parent = byte_at(&nodes.parents, index_of(child));
         let check = check_bind(
             i,
             record,
@@ -165,7 +173,7 @@ fn binds_obey(nodes: Nodes, rules: usize, binds: Binds) -> bool
             has_default[s],
         );
         obey = obey & passed(check);
-        has_default[s] = has_default[s] | (rule == 255);
+        has_default[s] = has_default[s] | (rule == terms::NO_ID);
     }
     obey
 }
@@ -173,7 +181,8 @@ fn binds_obey(nodes: Nodes, rules: usize, binds: Binds) -> bool
 // A child is marked where it has a port. The context of each port so far is its child's parent: the same port is there exactly where
 // the child is marked and this context is its parent.
 fn ports_obey(nodes: Nodes, ports: Ports) -> bool
-    ensures { λ b. ⌜ ((d : Document) → d .nodes ≡ nodes → d .ports ≡ ports → b ≡ every (portObeys d) (ports .count)) ⌝ }
+    ensures { λ b. ⌜ ((d : Document) → d .nodes ≡ nodes → d .ports ≡ ports
+        → b ≡ every (portObeys d) (ports .count)) ⌝ }
 {
     let count = ports.count;
     if 64 < count {
@@ -191,11 +200,11 @@ fn ports_obey(nodes: Nodes, ports: Ports) -> bool
             context: context,
             child: child,
         };
-        let context_type = byte_at(&nodes.types, context);
-        let parent = byte_at(&nodes.parents, child);
+        let context_type = byte_at(&nodes.types, index_of(context));
+        let parent = byte_at(&nodes.parents, index_of(child));
         let c = index_of(child);
-        let is_there = has_port[c] & (parent == context);
-        let check = check_port(i, record, nodes.count, context_type, parent, is_there);
+        let has_same_port = has_port[c] & (parent == context);
+        let check = check_port(i, record, nodes.count, context_type, parent, has_same_port);
         obey = obey & passed(check);
         has_port[c] = true;
     }
@@ -214,7 +223,14 @@ fn actions_obey(
     properties: usize,
 ) -> bool
     requires { ⌜ link < 64 ⌝ }
-    ensures { λ b. ⌜ ((d : Document) → d .actions .actions ≡ now (actions .entry) → d .actions .targets ≡ now (targets .entry) → d .actions .values ≡ now (values .entry) → d .links .count ≡ links → d .nodes .count ≡ nodes → d .properties ≡ properties → b ≡ every (actionObeys d link) count) ⌝ }
+    ensures { λ b. ⌜ ((d : Document)
+        → d .actions .actions ≡ now (actions .entry)
+        → d .actions .targets ≡ now (targets .entry)
+        → d .actions .values ≡ now (values .entry)
+        → d .links .count ≡ links
+        → d .nodes .count ≡ nodes
+        → d .properties ≡ properties
+        → b ≡ every (actionObeys d link) count) ⌝ }
 {
     let end = index_of(count);
     if 8 < end {
@@ -245,7 +261,14 @@ fn links_obey(
     links: Links,
     actions: Actions,
 ) -> bool
-    ensures { λ b. ⌜ ((d : Document) → d .nodes ≡ nodes → d .anchors .count ≡ anchors → d .properties ≡ properties → d .rules .count ≡ rules → d .links ≡ links → d .actions ≡ actions → b ≡ every (linkObeys d) (links .count)) ⌝ }
+    ensures { λ b. ⌜ ((d : Document)
+        → d .nodes ≡ nodes
+        → d .anchors .count ≡ anchors
+        → d .properties ≡ properties
+        → d .rules .count ≡ rules
+        → d .links ≡ links
+        → d .actions ≡ actions
+        → b ≡ every (linkObeys d) (links .count)) ⌝ }
 {
     let count = links.count;
     if 64 < count {
@@ -267,7 +290,7 @@ fn links_obey(
             transition: links.transitions[i],
             guard: links.guards[i],
         };
-        let owner_type = byte_at(&nodes.types, owner);
+        let owner_type = byte_at(&nodes.types, index_of(owner));
         let check = check_link(
             i,
             record,

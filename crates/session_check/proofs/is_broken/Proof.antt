@@ -1,5 +1,5 @@
 -- `session_check::is_broken` meets its contract. Assumes nothing.
-use Rattle.session_check.proofs.Prelude.{refl, sym, _∙_, not-true, not-false, needs}
+use Rattle.session_check.proofs.Prelude.{sym, _∙_, not-true, not-false, needs}
 use Rattle.machine.specs.Broken.{broken}
 use Rattle.session_check.proofs.Full.{entries-within}
 use Rattle.session_check.proofs.is_broken.Statement.{statement}
@@ -13,20 +13,16 @@ is-broken-spec =
     (λ c κs. search needs)  -- tables-obey-requires
     (λ c.
     let the-tables-obey = c .before .tables-obey in
-    let the-if1 = c .if1 in
-    rw (← the-tables-obey .ensures, not-true (the-tables-obey .result) (the-if1 .taken)))  -- returns
+    rw (← the-tables-obey .ensures, not-true (the-tables-obey .result) (c .if1 .taken)))  -- returns
     (λ c κs. search needs)  -- document-ends-zero-requires
     (λ c κs. search needs)  -- state-ends-zero-requires
     (λ c κs.
-    let the-tables-obey = c .before .before .before .before .before .tables-obey in
-    let the-if1 = c .before .before .before .before .if1 in
-    entries-within _ (sym (the-tables-obey .ensures) ∙ not-false _ (the-if1 .left)))  -- states-right-requires
+    entries-within _ (sym (c .before .before .before .tables-obey .ensures) ∙ not-false _ (c .before .before .if1 .left)))  -- states-right-requires
     (λ c.
-    let the-tables-obey = c .before .before .before .before .before .before .tables-obey in
-    let the-if1 = c .before .before .before .before .before .if1 in
+    let the-tables-obey = c .before .before .before .before .tables-obey in
+    let the-if1 = c .before .before .before .if1 in
     let the-document-ends-zero = c .before .before .document-ends-zero in
     let the-state-ends-zero = c .before .state-ends-zero in
-    let the-entry = c .before .before .before .before .before .before .before .before .before in
     let the-states-right = c .states-right in
-    rw (← the-tables-obey .ensures, not-false (the-tables-obey .result) (the-if1 .left), ← the-document-ends-zero .ensures, ← the-state-ends-zero .ensures (the-entry .args .s .document) refl refl refl, ← the-states-right .ensures))  -- returns-2
+    rw (← the-tables-obey .ensures, not-false (the-tables-obey .result) (the-if1 .left), ← the-document-ends-zero .ensures, ← the-state-ends-zero .ensures, ← the-states-right .ensures))  -- returns-2
     )

@@ -12,18 +12,10 @@ finish-spec =
     tie.close
     (tie.spec
     (λ c κs. search needs)  -- refuse-requires
-    (λ c.
-    let the-if1 = c .before .if1 in
-    let the-refuse = c .refuse in
-    rw (eq-eqb _ _ (the-if1 .taken)) (the-refuse .ensures))  -- returns
+    (λ c. rw (eq-eqb _ _ (c .before .if1 .taken)) (c .refuse .ensures))  -- returns
     (λ c κs. search needs)  -- refuse-requires-2
     (λ c.
     let the-if1 = c .before .before .before .before .if1 in
-    let the-if2 = c .before .if2 in
-    let the-refuse2 = c .refuse2 in
-    rw (ne-eqb _ _ (the-if1 .left), eq-eqb _ _ (the-if2 .taken)) (the-refuse2 .ensures))  -- returns-2
-    (λ c.
-    let the-if1 = c .before .before .before .if1 in
-    let the-if2 = c .if2 in
-    rw (ne-eqb _ _ (the-if1 .left), ne-eqb _ _ (the-if2 .left)))  -- returns-3
+    rw (eq-eqb _ _ (c .before .if2 .taken), ne-eqb _ _ (the-if1 .left)) (c .refuse2 .ensures))  -- returns-2
+    (λ c. rw (ne-eqb _ _ (c .if2 .left), ne-eqb _ _ (c .before .before .before .if1 .left)))  -- returns-3
     )

@@ -7,11 +7,8 @@ pub anchor-of-spec : {M : Type 1} → statement M
 anchor-of-spec =
     tie.close
     (tie.spec
-    (λ c. search needs)  -- shared-slice-read-t3
+    (λ c κs. search needs)  -- byte-at-requires
     (λ c κs. search needs)  -- u16-at-requires
     (λ c κs. search needs)  -- u16-at-requires-2
-    (λ c.
-    let the-u16-at = c .before .u16-at in
-    let the-u16-at2 = c .u16-at2 in
-    rw (the-u16-at .ensures, the-u16-at2 .ensures))  -- returns
+    (λ c. rw (c .before .before .byte-at .ensures, c .before .u16-at .ensures, c .u16-at2 .ensures))  -- returns
     )

@@ -7,10 +7,8 @@ pub node-of-spec : {M : Type 1} → statement M
 node-of-spec =
     tie.close
     (tie.spec
-    (λ c. search needs)  -- shared-slice-read-t3
-    (λ c. search needs)  -- shared-slice-read-t5
+    (λ c κs. search needs)  -- byte-at-requires
+    (λ c κs. search needs)  -- byte-at-requires-2
     (λ c κs. search needs)  -- u16-at-requires
-    (λ c.
-    let the-u16-at = c .u16-at in
-    rw (the-u16-at .ensures))  -- returns
+    (λ c. rw (c .before .before .byte-at .ensures, c .before .byte-at2 .ensures, c .u16-at .ensures))  -- returns
     )

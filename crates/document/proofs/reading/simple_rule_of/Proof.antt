@@ -9,10 +9,10 @@ pub simple-rule-of-spec : {M : Type 1} → statement M
 simple-rule-of-spec =
     tie.close
     (tie.spec
-    (λ c. search needs)  -- shared-slice-read-t3
-    (λ c. search needs)  -- shared-slice-read-t5
+    (λ c κs. search needs)  -- byte-at-requires
+    (λ c κs. search needs)  -- byte-at-requires-2
     (λ c κs. search needs)  -- i32-at-requires
     (λ c.
     let the-i32-at = c .i32-at in
-    rw (toZ-ofZ {w = w32} (record { sfits = the-i32-at .ok }), the-i32-at .ensures))  -- returns
+    rw (c .before .before .byte-at .ensures, c .before .byte-at2 .ensures, toZ-ofZ {w = w32} (record { sfits = the-i32-at .ok }), the-i32-at .ensures))  -- returns
     )

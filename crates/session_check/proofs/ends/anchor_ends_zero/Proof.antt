@@ -1,9 +1,11 @@
 -- `session_check::ends::anchor_ends_zero` meets its contract. Assumes nothing.
-use Rattle.session_check.proofs.Prelude.{needs}
+use Rattle.session_check.proofs.Prelude.{_∙_, [], _∷_, needs, all}
+use Rattle.session_check.proofs.Zeros.{joined}
 use Rattle.session_check.proofs.ends.anchor_ends_zero.Statement.{statement}
 use Rattle.session_check.proofs.ends.anchor_ends_zero.Tie as tie
 
 pub anchor-ends-zero-spec : {M : Type 1} → statement M
+unfolding all
 anchor-ends-zero-spec =
     tie.close
     (tie.spec
@@ -14,5 +16,5 @@ anchor-ends-zero-spec =
     let the-numbers-zero-from2 = c .numbers-zero-from2 in
     let the-numbers-zero-from = c .before .before .before .before .numbers-zero-from in
     let the-bytes-zero-from = c .before .before .before .before .before .before .before .before .bytes-zero-from in
-    rw (the-numbers-zero-from2 .ensures, the-numbers-zero-from .ensures, the-bytes-zero-from .ensures))  -- returns
+    joined (the-bytes-zero-from .result) (the-numbers-zero-from .result ∷ the-numbers-zero-from2 .result ∷ []) ∙ rw (the-numbers-zero-from2 .ensures, the-numbers-zero-from .ensures, the-bytes-zero-from .ensures))  -- returns
     )

@@ -1,12 +1,11 @@
 -- `session_check::ends::bytes_zero_from` meets its contract. Assumes nothing.
-use Rattle.session_check.proofs.Prelude.{_≡_, refl, _&&_, length, _-_, needs}
-use Rattle.machine.specs.Broken.{zeroFrom}
-use Rattle.session_check.proofs.Zeros.{numbers, zeros-more, zeros-done}
+use Rattle.session_check.proofs.Prelude.{_≡_, refl, _&&_, length, _-_, needs, _=?_, numbers, zeroFrom}
+use Rattle.session_check.proofs.Zeros.{zeros-more, zeros-done}
 use Rattle.session_check.proofs.ends.bytes_zero_from.Statement.{statement}
 use Rattle.session_check.proofs.ends.bytes_zero_from.Tie as tie
 
 abbrev Inv-loop : tie.InvT-loop
-Inv-loop table end zero₀ next₀ zero next = (zero && zeroFrom next table) ≡ zeroFrom end table
+Inv-loop table end zero₀ next₀ zero next = (zero && zeroFrom next (numbers table)) ≡ zeroFrom end (numbers table)
 
 abbrev μ-loop : tie.MeasureT-loop
 μ-loop table end zero₀ next₀ zero next = length table - next
@@ -21,13 +20,9 @@ bytes-zero-from-spec =
     (λ c. search needs)  -- shared-slice-read-zero
     (λ c. search needs)  -- loop-less
     (λ c.
-    let the-entry = c .before .before .before in
     let the-loop = c .before .before .loop in
-    let the-loop-test = c .before .loop-test in
-    zeros-more numbers (the-entry .args .table .now) _ (the-loop .zero) (the-loop .inv) (the-loop-test .taken))  -- loop-again
+    zeros-more (λ x. x =? 0) (c .before .before .before .args .table .now) _ (the-loop .zero) (the-loop .inv) 0 (c .before .loop-test .taken))  -- loop-again
     (λ c.
-    let the-entry = c .before .before in
     let the-loop = c .before .loop in
-    let the-loop-test = c .loop-test in
-    zeros-done numbers (the-entry .args .table .now) _ (the-loop .zero) (the-loop .inv) (the-loop-test .left))  -- returns
+    zeros-done (λ x. x =? 0) (c .before .before .args .table .now) _ (the-loop .zero) (the-loop .inv) (c .loop-test .left))  -- returns
     )

@@ -18,11 +18,11 @@ document-ends-zero-spec =
     (λ c κs. search needs)  -- action-ends-zero-requires
     (λ c.
     let the-action-ends-zero = c .action-ends-zero in
-    let the-link-ends-zero = c .before .link-ends-zero in
-    let the-port-ends-zero = c .before .before .port-ends-zero in
-    let the-bind-ends-zero = c .before .before .before .bind-ends-zero in
-    let the-rule-ends-zero = c .before .before .before .before .rule-ends-zero in
-    let the-anchor-ends-zero = c .before .before .before .before .before .anchor-ends-zero in
-    let the-node-ends-zero = c .before .before .before .before .before .before .node-ends-zero in
+    let the-link-ends-zero = c .before .before .before .before .before .before .before .before .link-ends-zero in
+    let the-port-ends-zero = c .before .before .before .before .before .before .before .before .before .port-ends-zero in
+    let the-bind-ends-zero = c .before .before .before .before .before .before .before .before .before .before .bind-ends-zero in
+    let the-rule-ends-zero = c .before .before .before .before .before .before .before .before .before .before .before .rule-ends-zero in
+    let the-anchor-ends-zero = c .before .before .before .before .before .before .before .before .before .before .before .before .anchor-ends-zero in
+    let the-node-ends-zero = c .before .before .before .before .before .before .before .before .before .before .before .before .before .node-ends-zero in
     rw (the-action-ends-zero .ensures, the-link-ends-zero .ensures, the-port-ends-zero .ensures, the-bind-ends-zero .ensures, the-rule-ends-zero .ensures, the-anchor-ends-zero .ensures, the-node-ends-zero .ensures))  -- returns
     )

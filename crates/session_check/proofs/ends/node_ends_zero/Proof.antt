@@ -1,9 +1,11 @@
 -- `session_check::ends::node_ends_zero` meets its contract. Assumes nothing.
-use Rattle.session_check.proofs.Prelude.{needs}
+use Rattle.session_check.proofs.Prelude.{_∙_, [], _∷_, needs, all}
+use Rattle.session_check.proofs.Zeros.{joined}
 use Rattle.session_check.proofs.ends.node_ends_zero.Statement.{statement}
 use Rattle.session_check.proofs.ends.node_ends_zero.Tie as tie
 
 pub node-ends-zero-spec : {M : Type 1} → statement M
+unfolding all
 node-ends-zero-spec =
     tie.close
     (tie.spec
@@ -14,5 +16,5 @@ node-ends-zero-spec =
     let the-numbers-zero-from = c .numbers-zero-from in
     let the-bytes-zero-from2 = c .before .before .before .before .bytes-zero-from2 in
     let the-bytes-zero-from = c .before .before .before .before .before .before .before .before .bytes-zero-from in
-    rw (the-numbers-zero-from .ensures, the-bytes-zero-from2 .ensures, the-bytes-zero-from .ensures))  -- returns
+    joined (the-bytes-zero-from .result) (the-bytes-zero-from2 .result ∷ the-numbers-zero-from .result ∷ []) ∙ rw (the-numbers-zero-from .ensures, the-bytes-zero-from2 .ensures, the-bytes-zero-from .ensures))  -- returns
     )

@@ -1,9 +1,11 @@
 -- `session_check::ends::port_ends_zero` meets its contract. Assumes nothing.
-use Rattle.session_check.proofs.Prelude.{needs}
+use Rattle.session_check.proofs.Prelude.{_∙_, [], _∷_, needs, all}
+use Rattle.session_check.proofs.Zeros.{joined}
 use Rattle.session_check.proofs.ends.port_ends_zero.Statement.{statement}
 use Rattle.session_check.proofs.ends.port_ends_zero.Tie as tie
 
 pub port-ends-zero-spec : {M : Type 1} → statement M
+unfolding all
 port-ends-zero-spec =
     tie.close
     (tie.spec
@@ -12,5 +14,5 @@ port-ends-zero-spec =
     (λ c.
     let the-bytes-zero-from2 = c .bytes-zero-from2 in
     let the-bytes-zero-from = c .before .before .before .before .bytes-zero-from in
-    rw (the-bytes-zero-from2 .ensures, the-bytes-zero-from .ensures))  -- returns
+    joined (the-bytes-zero-from .result) (the-bytes-zero-from2 .result ∷ []) ∙ rw (the-bytes-zero-from2 .ensures, the-bytes-zero-from .ensures))  -- returns
     )

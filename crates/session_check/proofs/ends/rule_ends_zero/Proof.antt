@@ -1,9 +1,11 @@
 -- `session_check::ends::rule_ends_zero` meets its contract. Assumes nothing.
-use Rattle.session_check.proofs.Prelude.{needs}
+use Rattle.session_check.proofs.Prelude.{_∙_, [], _∷_, needs, all}
+use Rattle.session_check.proofs.Zeros.{joined}
 use Rattle.session_check.proofs.ends.rule_ends_zero.Statement.{statement}
 use Rattle.session_check.proofs.ends.rule_ends_zero.Tie as tie
 
 pub rule-ends-zero-spec : {M : Type 1} → statement M
+unfolding all
 rule-ends-zero-spec =
     tie.close
     (tie.spec
@@ -22,5 +24,5 @@ rule-ends-zero-spec =
     let the-bytes-zero-from3 = c .before .before .before .before .before .before .before .before .before .before .before .before .before .before .before .before .bytes-zero-from3 in
     let the-bytes-zero-from2 = c .before .before .before .before .before .before .before .before .before .before .before .before .before .before .before .before .before .before .before .before .bytes-zero-from2 in
     let the-bytes-zero-from = c .before .before .before .before .before .before .before .before .before .before .before .before .before .before .before .before .before .before .before .before .before .before .before .before .bytes-zero-from in
-    rw (the-bytes-zero-from6 .ensures, the-bytes-zero-from5 .ensures, the-bytes-zero-from4 .ensures, the-values-zero-from .ensures, the-bytes-zero-from3 .ensures, the-bytes-zero-from2 .ensures, the-bytes-zero-from .ensures))  -- returns
+    joined (the-bytes-zero-from .result) (the-bytes-zero-from2 .result ∷ the-bytes-zero-from3 .result ∷ the-values-zero-from .result ∷ the-bytes-zero-from4 .result ∷ the-bytes-zero-from5 .result ∷ the-bytes-zero-from6 .result ∷ []) ∙ rw (the-bytes-zero-from6 .ensures, the-bytes-zero-from5 .ensures, the-bytes-zero-from4 .ensures, the-values-zero-from .ensures, the-bytes-zero-from3 .ensures, the-bytes-zero-from2 .ensures, the-bytes-zero-from .ensures))  -- returns
     )

@@ -9,20 +9,9 @@ unfolding stateEndsZero
 state-ends-zero-spec =
     tie.close
     (tie.spec
-    (λ c κs. search needs)  -- bytes-zero-from-requires
-    (λ c κs. search needs)  -- numbers-zero-from-requires
-    (λ c κs. search needs)  -- counts-zero-from-requires
-    (λ c κs. search needs)  -- bytes-zero-from-requires-2
-    (λ c κs. search needs)  -- counts-zero-from-requires-2
-    (λ c κs. search needs)  -- values-zero-from-requires
-    (λ c κs. search needs)  -- counts-zero-from-requires-3
+    (λ c κs. search needs)  -- node-events-end-zero-requires
+    (λ c κs. search needs)  -- anchor-events-end-zero-requires
+    (λ c κs. search needs)  -- property-events-end-zero-requires
     (λ c.
-    let the-counts-zero-from3 = c .counts-zero-from3 in
-    let the-values-zero-from = c .before .before .before .before .values-zero-from in
-    let the-counts-zero-from2 = c .before .before .before .before .before .before .before .before .counts-zero-from2 in
-    let the-bytes-zero-from2 = c .before .before .before .before .before .before .before .before .before .before .before .before .bytes-zero-from2 in
-    let the-counts-zero-from = c .before .before .before .before .before .before .before .before .before .before .before .before .before .before .before .before .counts-zero-from in
-    let the-numbers-zero-from = c .before .before .before .before .before .before .before .before .before .before .before .before .before .before .before .before .before .before .before .before .numbers-zero-from in
-    let the-bytes-zero-from = c .before .before .before .before .before .before .before .before .before .before .before .before .before .before .before .before .before .before .before .before .before .before .before .before .bytes-zero-from in
-    λ d n a p. rw (n, a, p, the-counts-zero-from3 .ensures, the-values-zero-from .ensures, the-counts-zero-from2 .ensures, the-bytes-zero-from2 .ensures, the-counts-zero-from .ensures, the-numbers-zero-from .ensures, the-bytes-zero-from .ensures))  -- returns
+    rw (c .property-events-end-zero .ensures, c .before .anchor-events-end-zero .ensures, c .before .before .node-events-end-zero .ensures))  -- returns
     )

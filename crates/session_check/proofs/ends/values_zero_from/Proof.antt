@@ -1,14 +1,14 @@
 -- `session_check::ends::values_zero_from` meets its contract. Assumes nothing.
-use Rattle.session_check.proofs.Prelude.{_≡_, refl, _&&_, length, _-_, needs}
-use Rattle.machine.specs.Broken.{zeroIntsFrom}
+use Rattle.session_check.proofs.Prelude.{_≡_, refl, _&&_, length, _-_, needs, equalInts, integers, zeroFrom}
+use lib.IntN.{pos}
 use mir.Facts.{toZ-ofZ}
 use mir.Syntax.{w32}
-use Rattle.session_check.proofs.Zeros.{integers, zeros-more, zeros-done}
+use Rattle.session_check.proofs.Zeros.{zeros-more, zeros-done}
 use Rattle.session_check.proofs.ends.values_zero_from.Statement.{statement}
 use Rattle.session_check.proofs.ends.values_zero_from.Tie as tie
 
 abbrev Inv-loop : tie.InvT-loop
-Inv-loop table end zero₀ next₀ zero next = (zero && zeroIntsFrom next table) ≡ zeroIntsFrom end table
+Inv-loop table end zero₀ next₀ zero next = (zero && zeroFrom next (integers table)) ≡ zeroFrom end (integers table)
 
 abbrev μ-loop : tie.MeasureT-loop
 μ-loop table end zero₀ next₀ zero next = length table - next
@@ -30,10 +30,8 @@ values-zero-from-spec =
     let the-entry = c .before .before .before .before in
     let the-loop = c .before .before .before .loop in
     let the-loop-test = c .before .before .loop-test in
-    rw (the-is-zero .ensures, toZ-ofZ {w = w32} (record { sfits = the-is-zero-arg .given })) (zeros-more integers (the-entry .args .table .now) _ (the-loop .zero) (the-loop .inv) (the-loop-test .taken)))  -- loop-again
+    rw (the-is-zero .ensures, toZ-ofZ {w = w32} (record { sfits = the-is-zero-arg .given })) (zeros-more (λ x. equalInts x (pos 0)) (the-entry .args .table .now) _ (the-loop .zero) (the-loop .inv) (pos 0) (the-loop-test .taken)))  -- loop-again
     (λ c.
-    let the-entry = c .before .before in
     let the-loop = c .before .loop in
-    let the-loop-test = c .loop-test in
-    zeros-done integers (the-entry .args .table .now) _ (the-loop .zero) (the-loop .inv) (the-loop-test .left))  -- returns
+    zeros-done (λ x. equalInts x (pos 0)) (c .before .before .args .table .now) _ (the-loop .zero) (the-loop .inv) (c .loop-test .left))  -- returns
     )

@@ -1,16 +1,14 @@
 -- `session_check::states::node_right` meets its contract. Assumes nothing.
 use Rattle.session_check.proofs.Prelude.{needs}
-use Rattle.machine.specs.Broken.{compositeRule, nodeRight}
+use Rattle.machine.specs.Broken.{compositeRight, nodeRight}
 use Rattle.session_check.proofs.states.node_right.Statement.{statement}
 use Rattle.session_check.proofs.states.node_right.Tie as tie
 
 pub node-right-spec : {M : Type 1} → statement M
-unfolding compositeRule nodeRight
+unfolding compositeRight nodeRight
 node-right-spec =
     tie.close
     (tie.spec
     (λ c κs. search needs)  -- clock-right-requires
-    (λ c.
-    let the-clock-right = c .clock-right in
-    λ d s n t u e k o. rw (← the-clock-right .ensures d s n t u e k, o, t, e))  -- returns
+    (λ c. λ d s n t u e k o. rw (← c .clock-right .ensures d s n t u e k, o, t, e))  -- returns
     )

@@ -13,7 +13,7 @@ states-right-spec =
     (λ c κs. search needs)  -- anchors-right-requires
     (λ c.
     let the-anchors-right = c .anchors-right in
-    let the-entry = c .before .before .before .before in
+    let the-entry = c .before .before in
     let the-nodes-right = c .before .nodes-right in
-    rw (the-anchors-right .ensures (the-entry .args .d) refl, the-nodes-right .ensures (the-entry .args .d) refl))  -- returns
+    rw (the-anchors-right .ensures (the-entry .args .d) (the-entry .args .s) refl refl refl, the-nodes-right .ensures (the-entry .args .d) (the-entry .args .s) refl refl))  -- returns
     )

@@ -18,29 +18,27 @@ anchors-obey-spec =
     tie.close
     (tie.spec
     Inv-loop μ-loop
-    (λ c.
-    let the-if1 = c .if1 in
-    λ d p q. every-fails _ 128 _ (the-if1 .taken) (full-anchors d))  -- returns
+    (λ c. λ d p q. every-fails _ 128 _ (c .if1 .taken) (full-anchors d))  -- returns
     (λ c. (omega arith, λ d p q. every-none _))  -- loop-holds
     (λ c. search needs)  -- add-next
     (λ c. search needs)  -- element-copy-out-media
-    (λ c. search needs)  -- mul-t19
-    (λ c. search needs)  -- element-copy-out-t22
-    (λ c. search needs)  -- mul-t23
-    (λ c. search needs)  -- element-copy-out-t26
+    (λ c. search needs)  -- mul-t20
+    (λ c. search needs)  -- element-copy-out-t23
+    (λ c. search needs)  -- mul-t24
+    (λ c. search needs)  -- element-copy-out-t27
+    (λ c κs. search needs)  -- index-of-requires
     (λ c κs. search needs)  -- byte-at-requires
     (λ c κs. search needs)  -- number-at-requires
     (λ c κs. search needs)  -- check-anchor-requires
     (λ c κs. search needs)  -- passed-requires
     (λ c. search needs)  -- loop-less
     (λ c.
-    let the-loop = c .before .before .before .before .before .before .before .before .before .before .before .before .before .before .loop in
+    let the-loop = c .before .before .before .before .before .before .before .before .before .before .before .before .before .before .before .loop in
     let the-passed = c .passed in
     let the-check-anchor = c .before .check-anchor in
+    let the-index-of = c .before .before .before .before .before .before .before .before .before .before .index-of in
     let the-byte-at = c .before .before .before .before .before .before .byte-at in
     let the-number-at = c .before .before .number-at in
-    (omega arith, λ d p q. every-more _ _ (the-loop .inv .1 d p q) (λ o. rw (p, q) (verdict (anchorFault _ _) _ _ (the-passed .ensures) (the-check-anchor .ensures _ refl (sym (the-byte-at .ensures)) (sym (the-number-at .ensures))) refl))))  -- loop-again
-    (λ c.
-    let the-loop = c .before .loop in
-    λ d p q. every-done _ _ _ (omega arith) (the-loop .inv .1 d p q))  -- returns-2
+    (omega arith, λ d p q. every-more _ _ (the-loop .inv .1 d p q) (λ o. rw (p, q) (verdict (anchorFault _ _) _ _ (the-passed .ensures) (the-check-anchor .ensures _ refl (sym (rw (the-index-of .ensures .0) at (the-byte-at .ensures))) (sym (rw (the-index-of .ensures .0) at (the-number-at .ensures)))) refl))))  -- loop-again
+    (λ c. λ d p q. every-done _ _ _ (omega arith) (c .before .loop .inv .1 d p q))  -- returns-2
     )

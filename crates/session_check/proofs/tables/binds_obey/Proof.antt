@@ -19,17 +19,16 @@ binds-obey-spec =
     tie.close
     (tie.spec
     Inv-loop μ-loop
-    (λ c.
-    let the-if1 = c .if1 in
-    λ d p u q. every-fails _ 64 _ (the-if1 .taken) (full-binds d))  -- returns
+    (λ c. λ d p u q. every-fails _ 64 _ (c .if1 .taken) (full-binds d))  -- returns
     (λ c. (omega arith, marked-none _, λ d p u q. every-none _))  -- loop-holds
     (λ c. search needs)  -- add-next
     (λ c. search needs)  -- element-copy-out-switch
     (λ c. search needs)  -- element-copy-out-child
     (λ c. search needs)  -- element-copy-out-rule
-    (λ c κs. search needs)  -- byte-at-requires
-    (λ c κs. search needs)  -- byte-at-requires-2
     (λ c κs. search needs)  -- index-of-requires
+    (λ c κs. search needs)  -- byte-at-requires
+    (λ c κs. search needs)  -- index-of-requires-2
+    (λ c κs. search needs)  -- byte-at-requires-2
     (λ c. search needs)  -- array-read-check-bind
     (λ c κs. search needs)  -- check-bind-requires
     (λ c κs. search needs)  -- passed-requires
@@ -37,18 +36,13 @@ binds-obey-spec =
     (λ c. search needs)  -- array-write-has-default
     (λ c. search needs)  -- loop-less
     (λ c.
-    let the-index-of = c .before .before .index-of in
-    let the-loop = c .before .before .before .before .before .before .before .before .before .before .before .before .before .before .before .loop in
+    let the-index-of = c .before .before .before .before .before .before .before .before .before .before .before .index-of in
+    let the-loop = c .before .before .before .before .before .before .before .before .before .before .before .before .before .before .before .before .loop in
     let the-passed = c .passed in
     let the-check-bind = c .before .check-bind in
     let the-byte-at = c .before .before .before .before .before .before .before .byte-at in
-    let the-byte-at2 = c .before .before .before .byte-at2 in (
-      omega arith,
-      marked-more _ _ _ _ _ _ (the-index-of .ensures .1) (λ n. rw (the-index-of .ensures .0)) refl (the-loop .inv .1),
-      λ d p u q. every-more _ _ (the-loop .inv .2 d p u q) (λ o.
-          verdict (bindFault d _) _ _ (the-passed .ensures) (the-check-bind .ensures d (rw p) u (rw p (sym (the-byte-at .ensures))) (rw p (sym (the-byte-at2 .ensures))) (rw (q, ← the-index-of .ensures .0) (sym (the-loop .inv .1 .marked _ (the-index-of .ensures .1))))) (rw q)),
-    ))  -- loop-again
-    (λ c.
-    let the-loop = c .before .loop in
-    λ d p u q. every-done _ _ _ (omega arith) (the-loop .inv .2 d p u q))  -- returns-2
+    let the-index-of2 = c .before .before .before .index-of2 in
+    let the-byte-at2 = c .before .before .byte-at2 in
+    (omega arith, marked-more _ _ _ _ _ _ (the-index-of .ensures .1) (λ n. rw (the-index-of .ensures .0)) refl (the-loop .inv .1), λ d p u q. every-more _ _ (the-loop .inv .2 d p u q) (λ o. verdict (bindFault d _) _ _ (the-passed .ensures) (the-check-bind .ensures d (rw p) u (rw p (sym (rw (the-index-of .ensures .0) at (the-byte-at .ensures)))) (rw p (sym (rw (the-index-of2 .ensures .0) at (the-byte-at2 .ensures)))) (rw (q, ← the-index-of .ensures .0) (sym (the-loop .inv .1 .marked _ (the-index-of .ensures .1))))) (rw q))))  -- loop-again
+    (λ c. λ d p u q. every-done _ _ _ (omega arith) (c .before .loop .inv .2 d p u q))  -- returns-2
     )

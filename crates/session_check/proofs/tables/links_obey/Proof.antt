@@ -17,9 +17,7 @@ links-obey-spec =
     tie.close
     (tie.spec
     Inv-loop μ-loop
-    (λ c.
-    let the-if1 = c .if1 in
-    λ d n a p u l k. every-fails _ 64 _ (the-if1 .taken) (full-links d))  -- returns
+    (λ c. λ d n a p u l k. every-fails _ 64 _ (c .if1 .taken) (full-links d))  -- returns
     (λ c. (omega arith, λ d n a p u l k t v. every-none _))  -- loop-holds
     (λ c. search needs)  -- add-next
     (λ c. search needs)  -- element-copy-out-owner
@@ -27,6 +25,7 @@ links-obey-spec =
     (λ c. search needs)  -- element-copy-out-t30
     (λ c. search needs)  -- element-copy-out-t33
     (λ c. search needs)  -- element-copy-out-t36
+    (λ c κs. search needs)  -- index-of-requires
     (λ c κs. search needs)  -- byte-at-requires
     (λ c κs. search needs)  -- check-link-requires
     (λ c. search needs)  -- element-copy-out-actions-obey-2
@@ -34,14 +33,13 @@ links-obey-spec =
     (λ c κs. search needs)  -- passed-requires
     (λ c. search needs)  -- loop-less
     (λ c.
-    let the-loop-test = c .before .before .before .before .before .before .before .before .before .before .before .before .before .before .before .before .loop-test in
-    let the-loop = c .before .before .before .before .before .before .before .before .before .before .before .before .before .before .before .before .before .loop in
+    let the-loop-test = c .before .before .before .before .before .before .before .before .before .before .before .before .before .before .before .before .before .loop-test in
+    let the-loop = c .before .before .before .before .before .before .before .before .before .before .before .before .before .before .before .before .before .before .loop in
     let the-passed = c .passed in
     let the-check-link = c .before .before .before .before .before .before .check-link in
+    let the-index-of = c .before .before .before .before .before .before .before .before .index-of in
     let the-byte-at = c .before .before .before .before .before .before .before .byte-at in
     let the-actions-obey = c .before .actions-obey in
-    (omega (arith, the-loop-test .taken), λ d n a p u l k t v. every-more _ _ (the-loop .inv .1 d n a p u l k t v) (λ o. link-obeys d _ _ _ _ _ _ (the-passed .ensures) (the-check-link .ensures d (rw n) a p u (rw n (sym (the-byte-at .ensures)))) (the-actions-obey .ensures d k t v (rw l) (rw n) p) (rw l) (rw l))))  -- loop-again
-    (λ c.
-    let the-loop = c .before .loop in
-    λ d n a p u l k. every-done _ _ _ (omega arith) (the-loop .inv .1 d n a p u l (rw k) (rw k) (rw k)))  -- returns-2
+    (omega (arith, the-loop-test .taken), λ d n a p u l k t v. every-more _ _ (the-loop .inv .1 d n a p u l k t v) (λ o. link-obeys d _ _ _ _ _ _ (the-passed .ensures) (the-check-link .ensures d (rw n) a p u (rw n (sym (rw (the-index-of .ensures .0) at (the-byte-at .ensures))))) (the-actions-obey .ensures d k t v (rw l) (rw n) p) (rw l) (rw l))))  -- loop-again
+    (λ c. λ d n a p u l k. every-done _ _ _ (omega arith) (c .before .loop .inv .1 d n a p u l (rw k) (rw k) (rw k)))  -- returns-2
     )

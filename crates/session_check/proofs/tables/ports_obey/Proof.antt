@@ -21,35 +21,30 @@ ports-obey-spec =
     tie.close
     (tie.spec
     Inv-loop μ-loop
-    (λ c.
-    let the-if1 = c .if1 in
-    λ d p q. every-fails _ 64 _ (the-if1 .taken) (full-ports d))  -- returns
+    (λ c. λ d p q. every-fails _ 64 _ (c .if1 .taken) (full-ports d))  -- returns
     (λ c. (omega arith, marked-none _, λ d p q. every-none _))  -- loop-holds
     (λ c. search needs)  -- add-next
     (λ c. search needs)  -- element-copy-out-context
     (λ c. search needs)  -- element-copy-out-child
-    (λ c κs. search needs)  -- byte-at-requires
-    (λ c κs. search needs)  -- byte-at-requires-2
     (λ c κs. search needs)  -- index-of-requires
-    (λ c. search needs)  -- array-read-is-there
+    (λ c κs. search needs)  -- byte-at-requires
+    (λ c κs. search needs)  -- index-of-requires-2
+    (λ c κs. search needs)  -- byte-at-requires-2
+    (λ c κs. search needs)  -- index-of-requires-3
+    (λ c. search needs)  -- array-read-has-same-port
     (λ c κs. search needs)  -- check-port-requires
     (λ c κs. search needs)  -- passed-requires
     (λ c. search needs)  -- array-write-has-port
     (λ c. search needs)  -- loop-less
     (λ c.
-    let the-index-of = c .before .before .index-of in
-    let the-loop = c .before .before .before .before .before .before .before .before .before .before .before .before .before .before .loop in
+    let the-index-of3 = c .before .before .index-of3 in
+    let the-loop = c .before .before .before .before .before .before .before .before .before .before .before .before .before .before .before .before .loop in
     let the-passed = c .passed in
     let the-check-port = c .before .check-port in
-    let the-byte-at = c .before .before .before .before .before .before .before .byte-at in
-    let the-byte-at2 = c .before .before .before .byte-at2 in (
-      omega arith,
-      marked-more _ _ _ _ true _ (the-index-of .ensures .1) (λ n. rw (the-index-of .ensures .0, and-true)) (rw or-true) (the-loop .inv .1),
-      λ d p q. every-more _ _ (the-loop .inv .2 d p q) (λ o.
-          verdict (portFault d _) _ _ (the-passed .ensures) (the-check-port .ensures d (rw p) (rw p (sym (the-byte-at .ensures))) (rw p (sym (the-byte-at2 .ensures)))
-          (same-port d _ _ (sym (the-loop .inv .2 d p q) ∙ o) ∙ rw (p, q, ← the-byte-at2 .ensures, ← the-index-of .ensures .0, ← the-loop .inv .1 .marked _ (the-index-of .ensures .1)))) (rw q)),
-    ))  -- loop-again
-    (λ c.
-    let the-loop = c .before .loop in
-    λ d p q. every-done _ _ _ (omega arith) (the-loop .inv .2 d p q))  -- returns-2
+    let the-index-of = c .before .before .before .before .before .before .before .before .before .index-of in
+    let the-byte-at = c .before .before .before .before .before .before .before .before .byte-at in
+    let the-index-of2 = c .before .before .before .before .index-of2 in
+    let the-byte-at2 = c .before .before .before .byte-at2 in
+    (omega arith, marked-more _ _ _ _ true _ (the-index-of3 .ensures .1) (λ n. rw (the-index-of3 .ensures .0, and-true)) (rw or-true) (the-loop .inv .1), λ d p q. every-more _ _ (the-loop .inv .2 d p q) (λ o. verdict (portFault d _) _ _ (the-passed .ensures) (the-check-port .ensures d (rw p) (rw p (sym (rw (the-index-of .ensures .0) at (the-byte-at .ensures)))) (rw p (sym (rw (the-index-of2 .ensures .0) at (the-byte-at2 .ensures)))) (same-port d _ _ (sym (the-loop .inv .2 d p q) ∙ o) ∙ rw (p, q, ← (rw (the-index-of2 .ensures .0) at (the-byte-at2 .ensures)), ← the-index-of3 .ensures .0, ← the-loop .inv .1 .marked _ (the-index-of3 .ensures .1)))) (rw q))))  -- loop-again
+    (λ c. λ d p q. every-done _ _ _ (omega arith) (c .before .loop .inv .2 d p q))  -- returns-2
     )

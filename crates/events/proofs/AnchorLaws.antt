@@ -2,30 +2,16 @@
 use mathlib.Core.Path.{_≡_, refl, sym, _∙_}
 use mathlib.Core.Bool.{Bool, true, false, _&&_, _||_}
 use mathlib.Core.List.{List}
-use Prim.Native.Nat.{ℕ, _+_, _<_, _≤_}
-use native.Mathlib.Omega.{arith}
-use borrow.Author.Tests.{ne-eqb, eqb-true}
+use Prim.Native.Nat.{ℕ, _+_, _<_}
+use borrow.Author.Tests.{eqb-true}
 use lib.ListN.{getD, set}
 use Rattle.base.specs.Tests.{if_then_else_, _=?_, by-test}
 use Rattle.base.specs.Marks.{Marked, marked-more}
-use Rattle.machine.specs.Terms.{toStart, noAction, noTransition}
+use Rattle.machine.specs.Terms.{noTransition}
 use Rattle.machine.specs.Tables.{anchorAt}
-use Rattle.machine.specs.Events.{Run, anchorState, transition, beginsAt, endsAt, follows, anchorTo, anchorChanged, anchorMoved}
+use Rattle.machine.specs.Events.{Run, anchorState, transition, anchorTo, anchorChanged, anchorMoved}
 use Rattle.machine.specs.declared.Anchors.{Anchors}
-use Rattle.events.specs.Parts.{selects, dueNext}
-
-module _ (clock : ℕ) where
-  pub selects-begins : selects toStart clock ≡ beginsAt clock
-  unfolding selects if_then_else_
-  selects-begins = refl
-
-  pub selects-ends : selects noAction clock ≡ endsAt clock
-  unfolding selects if_then_else_
-  selects-ends = refl
-
-pub selects-follows : (action : ℕ) → 1 ≤ action → selects action 0 ≡ follows action
-unfolding selects follows if_then_else_
-selects-follows action h = rw (ne-eqb action 0 (λ e. omega arith))
+use Rattle.events.specs.Parts.{dueNext}
 
 -- an anchor that does not move has no transition
 changed-if : (b aborting : Bool) (a new : ℕ) (r : Run)

@@ -127,7 +127,7 @@ node-to-later : (aborting : Bool) (n new : ℕ) (r : Run) (j : ℕ) → n < j �
 unfolding nodeTo nodeChanged
 node-to-later aborting n new r j h =
     chosen (λ (z : Run). nodeState (z .state) j ≡ nodeState (r .state) j) _ (λ _. refl)
-    (λ _. getD-set-other (r .state .«node_state») n j new 0 (λ u. omega arith))
+    (λ _. getD-set-other (r .state .nodes .states) n j new 0 (λ u. omega arith))
 
 node-to-same : (aborting : Bool) (n new : ℕ) (r : Run) → nodeState (r .state) n =? new ≡ true → nodeTo aborting n new r ≡ r
 unfolding nodeTo nodeChanged transition if_then_else_
@@ -139,7 +139,7 @@ module _ (nodes : Nodes) (action target c : ℕ) (r : Run) where
   unfolding settledOne
   settled-later e j h = rw e (chosen (λ (z : Run). nodeState (z .state) j ≡ nodeState (r .state) j) _ (λ _. refl) (λ _. node-to-later _ c _ r j h))
 
-  module _ (children : ℕ) (e : children ≡ childrenState nodes (r .state .«node_state») c) where
+  module _ (children : ℕ) (e : children ≡ childrenState nodes (r .state .nodes .states) c) where
     pub settled-moves : {z : Run} {aborting : Bool} → resettled (typeOf nodes c) (nodeState (r .state) c) children ≡ true → aborting ≡ abortsAt nodes action target c
         → z ≡ nodeTo aborting c children r → z ≡ settledOne nodes action target c r
     unfolding settledOne resettled if_then_else_

@@ -8,4 +8,4 @@ pub use borrow.Author.Tests.{lt-ltb, le-ltb, le-leb, lt-leb, eq-eqb, ne-eqb}
 unfoldable pub use Rattle.base.specs.Tests.{if_then_else_}
 unfoldable pub use Rattle.base.specs.Loops.{ascending, descending, first}
 pub use Rattle.base.specs.Loops.{ascending-none, ascending-more, ascending-done, descending-more, descending-done, first-none, first-skip, first-hit, first-end}
-pub use Rattle.events.specs.Running.{on}
+pub use Rattle.events.specs.Running.{run}

@@ -35,7 +35,7 @@ startFrom d start (Media n) r = mediaMoved (d .anchors) toStart n r
 startFrom d start (Context n) r = contextStarted d start n r
 startFrom d start (Switch n) r = switchStarted d start n r
 
-pub started-from : (d : Document) (levels n : ℕ) (r : Run) → 0 < levels → started d levels n r ≡ startFrom d (started d (levels - 1)) (startOf (d .nodes) (r .state .«node_state») n) r
+pub started-from : (d : Document) (levels n : ℕ) (r : Run) → 0 < levels → started d levels n r ≡ startFrom d (started d (levels - 1)) (startOf (d .nodes) (r .state .nodes .states) n) r
 unfolding startedOne startOf if_then_else_
 started-from d levels n r h =
     one-level d levels n r h
@@ -97,7 +97,7 @@ module _ (d : Document) (sound : Sound d) (n : ℕ) where
     port-reaches states start e =
         rw e (by-test (portAt (d .ports) p .context =? n) (λ f. rw f (start-reaches (Deeper n) _ states _ _ refl (port-deeper (eqb-true _ _ f)))) (λ f. rw f tt))
 
-    pub port-started : (levels : ℕ) → 64 ≤ n + (levels + 1) → (r : Run) (start : Start) → start ≡ portStart (d .nodes) (d .ports) (r .state .«node_state») n p
+    pub port-started : (levels : ℕ) → 64 ≤ n + (levels + 1) → (r : Run) (start : Start) → start ≡ portStart (d .nodes) (d .ports) (r .state .nodes .states) n p
         → portStarted d (started d levels) n p r ≡ startFrom d (started d (levels - 1)) start r
     unfolding portStarted portStart if_then_else_
     port-started levels b r start e =
@@ -122,11 +122,11 @@ module _ (d : Document) (sound : Sound d) (n : ℕ) where
     bind-reaches states start e =
         rw e (by-test (foundBind (d .binds) (d .rules) values n <? d .binds .count) (λ f. rw f (start-reaches (Deeper n) _ states _ _ refl (bind-deeper (ltb-true _ _ f)))) (λ f. rw f tt))
 
-  pub bind-started : (levels : ℕ) → 64 ≤ n + (levels + 1) → (r : Run) (start : Start) → start ≡ bindStart d (r .state .«property_value») (r .state .«node_state») n
+  pub bind-started : (levels : ℕ) → 64 ≤ n + (levels + 1) → (r : Run) (start : Start) → start ≡ bindStart d (r .state .properties .values) (r .state .nodes .states) n
       → switchStarted d (started d levels) n r ≡ startFrom d (started d (levels - 1)) start r
   unfolding switchStarted bindStart if_then_else_
   bind-started levels b r start e =
-      let values = r .state .«property_value» in
+      let values = r .state .properties .values in
       rw e
       (by-test (foundBind (d .binds) (d .rules) values n <? d .binds .count)
       (λ f.

@@ -10,14 +10,14 @@ use lib.Seq.{getD-set-other}
 use Rattle.base.specs.Tests.{if_then_else_, _=?_, _<?_}
 use Rattle.base.specs.Loops.{ascending, some, ascending-turns, ascending-idle, none-some}
 use Rattle.base.specs.Marks.{Marked}
-use Rattle.machine.specs.Terms.{media, sleeping, occurring, noAction, toStart, toStop}
+use Rattle.machine.specs.Terms.{media, sleeping, occurring, toStop}
 use Rattle.machine.specs.Tables.{typeOf, durationOf}
 use Rattle.machine.specs.Events.{Run, withState, nodeState, nodeClock, anchorState, awake, beginsAt, endsAt, nodeTo, nodeChanged, anchorTo, anchorChanged, anchorMoved, anchorsMoved, mediaTo, mediaMoved}
 use Rattle.machine.specs.Tick.{withClock, anchorsPassed, passed, tickedOne}
 use Rattle.machine.specs.declared.Anchors.{Anchors}
 use Rattle.machine.specs.declared.Document.{Document}
 use Rattle.machine.proofs.Keep.{chosen}
-use Rattle.events.specs.Parts.{selects, dueNext, advancing}
+use Rattle.events.specs.Parts.{dueNext, advancing}
 
 pub low-clock : (type state clock : ℕ) → advancing type state clock ≡ true → clock < 65_535
 unfolding advancing
@@ -45,18 +45,18 @@ module _ (d : Document) (n : ℕ) (r : Run) where
   ticked-not e = rw e
 
   -- the anchors that end, and then those that begin
-  pub anchors-pass : (clock : ℕ) {x y : Run} → x ≡ anchorsMoved (d .anchors) (selects noAction clock) false n sleeping (withState (withClock n clock (r .state)) (r .log) r)
-      → y ≡ anchorsMoved (d .anchors) (selects toStart clock) false n occurring x → y ≡ anchorsPassed d n clock r
-  unfolding anchorsPassed selects if_then_else_
+  pub anchors-pass : (clock : ℕ) {x y : Run} → x ≡ anchorsMoved (d .anchors) (endsAt clock) false n sleeping (withState (withClock n clock (r .state)) (r .log) r)
+      → y ≡ anchorsMoved (d .anchors) (beginsAt clock) false n occurring x → y ≡ anchorsPassed d n clock r
+  unfolding anchorsPassed
   anchors-pass clock p q = q ∙ ap (anchorsMoved (d .anchors) (beginsAt clock) false n occurring) p
 
 -- ---- a media leaves the clocks of the others
 
-anchors-leave-clocks : (anchors : Anchors) (moves : ℕ → ℕ → ℕ → Bool) (aborting : Bool) (n new : ℕ) (r : Run) → anchorsMoved anchors moves aborting n new r .state .«node_clock» ≡ r .state .«node_clock»
+anchors-leave-clocks : (anchors : Anchors) (moves : ℕ → ℕ → ℕ → Bool) (aborting : Bool) (n new : ℕ) (r : Run) → anchorsMoved anchors moves aborting n new r .state .nodes .clocks ≡ r .state .nodes .clocks
 unfolding anchorsMoved anchorMoved anchorTo anchorChanged
 anchors-leave-clocks anchors moves aborting n new r =
-    ascending-turns (λ k (y : Run). y .state .«node_clock» ≡ r .state .«node_clock») (anchors .count) r refl
-    (λ k y h p. chosen (λ (z : Run). z .state .«node_clock» ≡ r .state .«node_clock») _ (λ _. chosen (λ (z : Run). z .state .«node_clock» ≡ r .state .«node_clock») _ (λ _. p) (λ _. p)) (λ _. p))
+    ascending-turns (λ k (y : Run). y .state .nodes .clocks ≡ r .state .nodes .clocks) (anchors .count) r refl
+    (λ k y h p. chosen (λ (z : Run). z .state .nodes .clocks ≡ r .state .nodes .clocks) _ (λ _. chosen (λ (z : Run). z .state .nodes .clocks ≡ r .state .nodes .clocks) _ (λ _. p) (λ _. p)) (λ _. p))
 
 module _ (d : Document) (n j : ℕ) (other : j ≡ n → ⊥) where
   -- the clock of j is as it was
@@ -69,7 +69,7 @@ module _ (d : Document) (n j : ℕ) (other : j ≡ n → ⊥) where
 
   node-leaves : (aborting : Bool) (new : ℕ) (r : Run) → Left r (nodeTo aborting n new r)
   unfolding Left nodeTo nodeChanged
-  node-leaves aborting new r = chosen (Left r) _ (λ _. refl) (λ _. getD-set-other (r .state .«node_clock») n j _ 0 other)
+  node-leaves aborting new r = chosen (Left r) _ (λ _. refl) (λ _. getD-set-other (r .state .nodes .clocks) n j _ 0 other)
 
   media-leaves : (action : ℕ) (r : Run) → Left r (mediaMoved (d .anchors) action n r)
   unfolding Left mediaMoved mediaTo
@@ -79,7 +79,7 @@ module _ (d : Document) (n j : ℕ) (other : j ≡ n → ⊥) where
 
   passed-leaves : (clock : ℕ) (r : Run) → Left r (anchorsPassed d n clock r)
   unfolding Left anchorsPassed
-  passed-leaves clock r = anchors-leave _ _ _ _ ∙ anchors-leave _ _ _ _ ∙ getD-set-other (r .state .«node_clock») n j clock 0 other
+  passed-leaves clock r = anchors-leave _ _ _ _ ∙ anchors-leave _ _ _ _ ∙ getD-set-other (r .state .nodes .clocks) n j clock 0 other
 
   ticked-leaves : (r : Run) → Left r (tickedOne d n r)
   unfolding Left tickedOne passed
@@ -105,13 +105,13 @@ module _ (anchors : Anchors) (clocks : List ℕ) (n clock : ℕ) (marks : List B
   unfolding dueNext
   unmarked times m a h = rw same (none-some (dueNext (anchors .media) times clocks n) _ (sym (m .marked n low) ∙ none) a h)
 
-  pub none-end : Marked (dueNext (anchors .media) (anchors .ends) clocks) (anchors .count) marks → r ≡ anchorsMoved anchors (selects noAction (clock + 1)) false n new r
-  unfolding anchorsMoved anchorMoved selects endsAt if_then_else_
+  pub none-end : Marked (dueNext (anchors .media) (anchors .ends) clocks) (anchors .count) marks → r ≡ anchorsMoved anchors (endsAt (clock + 1)) false n new r
+  unfolding anchorsMoved anchorMoved endsAt if_then_else_
   none-end m =
       sym
       (ascending-idle (anchorMoved anchors (endsAt (clock + 1)) false n new) (anchors .count) r
       (λ a h. rw (stays-with (getD (anchors .media) a 0 =? n) (awake (anchorState (r .state) a)) (getD (anchors .ends) a 0 =? clock + 1) (unmarked _ m a h))))
 
-  pub none-begin : Marked (dueNext (anchors .media) (anchors .begins) clocks) (anchors .count) marks → r ≡ anchorsMoved anchors (selects toStart (clock + 1)) false n new r
-  unfolding anchorsMoved anchorMoved selects beginsAt if_then_else_
+  pub none-begin : Marked (dueNext (anchors .media) (anchors .begins) clocks) (anchors .count) marks → r ≡ anchorsMoved anchors (beginsAt (clock + 1)) false n new r
+  unfolding anchorsMoved anchorMoved beginsAt if_then_else_
   none-begin m = sym (ascending-idle (anchorMoved anchors (beginsAt (clock + 1)) false n new) (anchors .count) r (λ a h. rw (unmarked (anchors .begins) m a h)))

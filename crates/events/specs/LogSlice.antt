@@ -1,4 +1,4 @@
--- The log that a slice and a number of lines written stand for; and its laws: it goes along with `logged`, a line read back is a group of bytes,
+-- The lines that are written in a slice; and their laws: one more goes along with `logged`, a line read back is a group of bytes,
 -- and the lines are the bytes written.
 use Prim.Native.Nat.{ℕ, zero, suc, _+_, _-_, _*_, _/_, _<_, _≤_}
 use native.Mathlib.Omega.{arith}
@@ -12,7 +12,7 @@ use lib.Seq.{getD-set-same, getD-set-other, take-suc, take-suc-set, take-all, ge
 use lib.Dec.{ltb}
 use borrow.Author.Tests.{lt-ltb, le-ltb, ltb-true, ltb-false}
 use Rattle.base.specs.Tests.{if_then_else_, by-test, _<?_}
-use Rattle.machine.specs.Log.{Log, line, logged, emptyLog, bytesOf, sliceWith}
+use Rattle.machine.specs.Log.{Log, line, met, logged, bytesOf, sliceWith}
 use Rattle.machine.specs.declared.Line.{Line}
 
 -- the k-th group of 4 bytes, and the first groups
@@ -28,14 +28,9 @@ groups : List ℕ → ℕ → List Line
 groups bytes zero = []
 groups bytes (suc k) = groups bytes k ++ (group bytes k ∷ [])
 
--- a slice of which so many lines are written; one more than there is room for: a line did not fit.
--- Only the laws below look into it.
-pub logOf : List ℕ → ℕ → Log
-logOf bytes at = record {
-  lines = groups bytes (if length bytes / 4 <? at then length bytes / 4 else at);
-  room = length bytes / 4;
-  full = length bytes / 4 <? at;
-}
+-- the first lines of a slice: so many, or as many as there is room for. Only the laws below look into it.
+pub linesIn : List ℕ → ℕ → List Line
+linesIn bytes lines = groups bytes (if length bytes / 4 <? lines then length bytes / 4 else lines)
 
 -- ---- laws
 
@@ -101,64 +96,57 @@ groups-before b at c i t (suc k) h =
       groups-before b at c i t k (omega arith),
     )
 
--- a log with room for what is written
-logOf-room : (b : List ℕ) (at : ℕ) → at ≤ length b / 4 → logOf b at ≡ record { lines = groups b at; room = length b / 4; full = false }
-unfolding logOf if_then_else_
-logOf-room b at h = rw (le-ltb (length b / 4) at h)
+-- lines for which there is room
+lines-room : (b : List ℕ) (n : ℕ) → n ≤ length b / 4 → linesIn b n ≡ groups b n
+unfolding linesIn if_then_else_
+lines-room b n h = rw (le-ltb (length b / 4) n h)
 
-pub logOf-none : (b : List ℕ) → logOf b 0 ≡ emptyLog (length b)
+pub lines-none : (b : List ℕ) → linesIn b 0 ≡ []
 unfolding groups
-logOf-none b = logOf-room b 0 (omega arith)
+lines-none b = lines-room b 0 (omega arith)
 
--- one line more, where it fits and where not
-pub logOf-fits : (b : List ℕ) (at c i t : ℕ) → at < length b / 4 → logOf (stored b (4 * at) c i t) (at + 1) ≡ logged (line c i t) (logOf b at)
-unfolding logged if_then_else_ groups
-logOf-fits b at c i t h =
-    let s : length (stored b (4 * at) c i t) ≡ length b = stored-length b (4 * at) c i t in
-    logOf-room (stored b (4 * at) c i t) (at + 1) (omega arith)
-    ∙ rw (
-      logOf-room b at (omega arith),
-      groups-length b at,
-      lt-ltb at (length b / 4) h,
-      s,
-      add-one at,
-      groups-before b at c i t at (omega arith),
-      class-at b (4 * at) c i t (omega arith),
-      id-at b (4 * at) c i t (omega arith),
-      transition-at b (4 * at) c i t (omega arith),
-      zero-at b (4 * at) c i t (omega arith),
-    )
+-- how many lines there are
+lines-length : (b : List ℕ) (n : ℕ) → n ≤ length b / 4 → length (linesIn b n) ≡ n
+lines-length b n h = rw (lines-room b n h) (groups-length b n)
 
-pub logOf-full : (b : List ℕ) (at : ℕ) (l : Line) → length b / 4 ≤ at → logOf b (length b / 4 + 1) ≡ logged l (logOf b at)
-unfolding logged if_then_else_ logOf
-logOf-full b at l h =
-    let room = length b / 4 in
-    let full = lt-ltb room (room + 1) (omega arith) in
-    let none = le-ltb room room (omega arith) in
-    by-test (ltb room at) (λ e. rw (e, groups-length b room, none, full))
-    (λ e.
-    let q : at ≡ room = omega (arith, ltb-false room at e) in
-    rw (e, q, groups-length b room, none, full))
-
--- how many lines there are, whether a line did not fit, and the room
-pub logOf-length : (b : List ℕ) (at : ℕ) → at ≤ length b / 4 → length (logOf b at .lines) ≡ at
-logOf-length b at h = rw (logOf-room b at h) (groups-length b at)
-
-pub logOf-is-full : (b : List ℕ) (at : ℕ) → logOf b at .full ≡ ltb (length b / 4) at
-unfolding logOf
-logOf-is-full b at = refl
-
-pub logOf-has-room : (b : List ℕ) (at : ℕ) → logOf b at .room ≡ length b / 4
-unfolding logOf
-logOf-has-room b at = refl
+lines-all : (b : List ℕ) (n : ℕ) → length b / 4 ≤ n → linesIn b n ≡ groups b (length b / 4)
+unfolding linesIn if_then_else_
+lines-all b n h = by-test (ltb (length b / 4) n) (λ e. rw e) (λ e. let q : n ≡ length b / 4 = omega (arith, ltb-false (length b / 4) n e) in rw (e, q))
 
 -- whether there is a line k
-pub logOf-has : (b : List ℕ) (at k : ℕ) → k < at → k < length b / 4 → k < length (logOf b at .lines)
-unfolding logOf if_then_else_
-logOf-has b at k h l = by-test (ltb (length b / 4) at) (λ e. rw (e, groups-length b (length b / 4)) l) (λ e. rw (e, groups-length b at) h)
+pub lines-have : (b : List ℕ) (n k : ℕ) → k < n → k < length b / 4 → k < length (linesIn b n)
+unfolding linesIn if_then_else_
+lines-have b n k h l = by-test (ltb (length b / 4) n) (λ e. rw (e, groups-length b (length b / 4)) l) (λ e. rw (e, groups-length b n) h)
 
-pub logOf-lacks : (b : List ℕ) (at k : ℕ) → at ≤ k → k < length b / 4 → length (logOf b at .lines) ≤ k
-logOf-lacks b at k h l = rw (logOf-length b at (omega arith)) h
+pub lines-lack : (b : List ℕ) (n k : ℕ) → n ≤ k → k < length b / 4 → length (linesIn b n) ≤ k
+lines-lack b n k h l = rw (lines-length b n (omega arith)) h
+
+-- one line more, where it fits and where not
+abbrev inSlice : List ℕ → ℕ → ℕ → Log
+inSlice b n stop = record { lines = linesIn b n; room = length b / 4; stop = stop }
+
+module _ (b : List ℕ) (n stop c i t : ℕ) where
+  pub logged-fits : n < length b / 4 → inSlice (stored b (4 * n) c i t) (n + 1) stop ≡ logged (line c i t) (inSlice b n stop)
+  unfolding logged if_then_else_ groups
+  logged-fits h =
+      let s : length (stored b (4 * n) c i t) ≡ length b = stored-length b (4 * n) c i t in
+      rw (
+        lines-room (stored b (4 * n) c i t) (n + 1) (omega arith),
+        lines-room b n (omega arith),
+        groups-length b n,
+        lt-ltb n (length b / 4) h,
+        s,
+        add-one n,
+        groups-before b n c i t n (omega arith),
+        class-at b (4 * n) c i t (omega arith),
+        id-at b (4 * n) c i t (omega arith),
+        transition-at b (4 * n) c i t (omega arith),
+        zero-at b (4 * n) c i t (omega arith),
+      )
+
+  pub logged-full : length b / 4 ≤ n → met 12 (inSlice b n stop) ≡ logged (line c i t) (inSlice b n stop)
+  unfolding logged if_then_else_
+  logged-full h = rw (lines-all b n h, groups-length b (length b / 4), le-ltb (length b / 4) (length b / 4) (omega arith))
 
 -- a line read back
 groups-at : (b : List ℕ) (n k : ℕ) (z : Line) → k < n → getD (groups b n) k z ≡ group b k
@@ -171,9 +159,9 @@ groups-at b (suc n) k z h =
     let q : k ≡ n = omega (arith, ltb-false k n e) in
     rw q (getD-at (groups b n) (group b n) [] z n (groups-length b n)))
 
-pub logOf-line : (b : List ℕ) (at k : ℕ) (z : Line) → k < at → k < length b / 4 → getD (logOf b at .lines) k z ≡ group b k
-unfolding logOf if_then_else_
-logOf-line b at k z h l = by-test (ltb (length b / 4) at) (λ e. rw e (groups-at b (length b / 4) k z l)) (λ e. rw e (groups-at b at k z h))
+pub line-in : (b : List ℕ) (n k : ℕ) (z : Line) → k < n → k < length b / 4 → getD (linesIn b n) k z ≡ group b k
+unfolding linesIn if_then_else_
+line-in b n k z h l = by-test (ltb (length b / 4) n) (λ e. rw e (groups-at b (length b / 4) k z l)) (λ e. rw e (groups-at b n k z h))
 
 -- ---- the lines are the bytes written
 
@@ -187,7 +175,11 @@ take-next b j q e h = rw e (take-suc b j 0 h)
 take-four : (b : List ℕ) (p : ℕ) → p + 3 < length b → take (p + 4) b ≡ take p b ++ (getD b p 0 ∷ getD b (p + 1) 0 ∷ getD b (p + 2) 0 ∷ getD b (p + 3) 0 ∷ [])
 take-four b p h =
     take-next b (p + 3) (p + 4) (omega arith) h
-    ∙ rw (take-next b (p + 2) (p + 3) (omega arith) (omega arith), take-next b (p + 1) (p + 2) (omega arith) (omega arith), take-next b p (p + 1) (omega arith) (omega arith))
+    ∙ rw (
+      take-next b (p + 2) (p + 3) (omega arith) (omega arith),
+      take-next b (p + 1) (p + 2) (omega arith) (omega arith),
+      take-next b p (p + 1) (omega arith) (omega arith),
+    )
     (simp append-assoc)
 
 groups-bytes : (b : List ℕ) (n : ℕ) → n ≤ length b / 4 → bytesOf (groups b n) ≡ take (4 * n) b
@@ -196,9 +188,6 @@ groups-bytes b zero h = refl
 groups-bytes b (suc n) h =
     let e : 4 * suc n ≡ 4 * n + 4 = omega arith in
     bytesOf-append (groups b n) (group b n ∷ []) ∙ rw (groups-bytes b n (omega arith), e, take-four b (4 * n) (omega arith))
-
-pub logOf-bytes : (b : List ℕ) (at : ℕ) → at ≤ length b / 4 → bytesOf (logOf b at .lines) ≡ take (4 * at) b
-logOf-bytes b at h = rw (logOf-room b at h) (groups-bytes b at h)
 
 -- ---- clearing what follows the lines: from m on, at place p
 
@@ -219,6 +208,11 @@ clear-more b m x p h l c =
     (take-suc-set x p 0 l
     ∙ rw c (append-assoc (take m b) (replicate (p - m) 0) (0 ∷ []) ∙ ap (λ (r : List ℕ). take m b ++ r) (replicate-append-replicate (p - m) 1 0)))
 
-pub clear-done : (b : List ℕ) (at : ℕ) (x : List ℕ) (p : ℕ) → at ≤ length b / 4 → length x ≡ length b → p ≡ length b → Cleared b (4 * at) x p → x ≡ sliceWith (logOf b at .lines) (length b)
-unfolding Cleared sliceWith
-clear-done b at x p h l e c = sym (take-all p x (omega arith)) ∙ c ∙ rw (e, logOf-bytes b at h, logOf-length b at h)
+pub clear-done : (b : List ℕ) (n : ℕ) (x : List ℕ) (p : ℕ) → length x ≡ length b → p ≡ length b
+    → Cleared b (4 * (if length b / 4 <? n then length b / 4 else n)) x p → x ≡ sliceWith (linesIn b n) (length b)
+unfolding Cleared sliceWith linesIn if_then_else_
+clear-done b n x p l e c =
+    sym (take-all p x (omega arith)) ∙ c
+    ∙ by-test (ltb (length b / 4) n)
+    (λ f. rw (f, e, groups-bytes b (length b / 4) (omega arith), groups-length b (length b / 4)))
+    (λ f. rw (f, e, groups-bytes b n (omega (arith, ltb-false (length b / 4) n f)), groups-length b n))

@@ -2,22 +2,22 @@
 use mathlib.Core.Path.{_≡_}
 use mathlib.Core.Bool.{Bool, not, _&&_}
 use mathlib.Core.List.{List}
-use Prim.Native.Nat.{ℕ, _+_, _≤_, _<_}
+use Prim.Native.Nat.{ℕ, _+_, _<_}
 use lib.ListN.{getD}
 use Rattle.base.specs.Tests.{if_then_else_, _=?_, _<?_}
-use Rattle.machine.specs.Terms.{media, sleeping, occurring, paused, toStart, toSet, noAction, noId}
+use Rattle.machine.specs.Terms.{media, sleeping, occurring, paused, noId}
 use Rattle.machine.specs.Tables.{bindAt}
 use Rattle.machine.specs.Events.{awake, beginsAt, endsAt, isAwake}
 use Rattle.machine.specs.declared.Binds.{Binds}
 use Rattle.machine.specs.declared.Rules.{Rules}
-use Rattle.machine.specs.declared.Document.{Document}
+use Rattle.events.specs.declared.anchors.Moving.{Moving}
+use Rattle.events.specs.declared.anchors.Moving.the-variants.{BeginningAt, EndingAt, Awake}
 
--- which anchors move, by an action and a clock: on start those that begin at the clock, with no action those awake that end at it, else those awake
-unfoldable pub selects : ℕ → ℕ → ℕ → ℕ → ℕ → Bool
-selects action clock =
-    if action =? toStart then beginsAt clock
-    else if action =? noAction then endsAt clock
-    else isAwake
+-- which anchors move
+abbrev pub moves : Moving → ℕ → ℕ → ℕ → Bool
+moves (BeginningAt clock) = beginsAt clock
+moves (EndingAt clock) = endsAt clock
+moves Awake = isAwake
 
 -- anchor a is one of media n, and its time comes with the next clock of n; the time is the anchor's begin or its end
 unfoldable pub dueNext : List ℕ → List ℕ → List ℕ → ℕ → ℕ → Bool
@@ -42,10 +42,3 @@ advancing type state clock = type =? media && state =? occurring && clock <? 65_
 -- the rules that binds name are there
 abbrev pub KnownRules : Binds → Rules → Type 0
 KnownRules binds rules = (b : ℕ) → b < binds .count → (bindAt binds b .rule ≡ noId → ⊥) → bindAt binds b .rule < rules .count
-
--- there is such an action, and such a target
-pub record Applicable (d : Document) (action target : ℕ) : Type 0 where
-  pub least : toStart ≤ action
-  pub most : action ≤ toSet
-  pub node : (action ≡ toSet → ⊥) → target < d .nodes .count
-  pub property : action ≡ toSet → target < d .properties

@@ -1,22 +1,24 @@
--- The run that the working record of a call and its log slice stand for.
-use Prim.Native.Nat.{ℕ}
+-- The log that a slice and what is written of it stand for; and the run that the working record of a call and its log slice stand for.
+use Prim.Native.Nat.{ℕ, _/_}
 use mathlib.Core.List.{List}
+use lib.ListN.{length}
+use Rattle.machine.specs.Answers.{checkNumber}
+use Rattle.machine.specs.Log.{Log}
 use Rattle.machine.specs.Events.{Run}
-use Rattle.events.specs.LogSlice.{logOf}
+use Rattle.events.specs.LogSlice.{linesIn}
 use Rattle.events.specs.declared.Work.{Work}
+use Rattle.events.specs.declared.log.Written.{Written}
 
-abbrev pub on : Work → List ℕ → Run
-on w bytes = record {
+abbrev pub logOf : Written → List ℕ → Log
+logOf w bytes = record { lines = linesIn bytes (w .lines); room = length bytes / 4; stop = checkNumber (w .stop) }
+
+abbrev pub run : Work → List ℕ → Run
+run w bytes = record {
   state = record {
-    «node_state» = w .«node_state»;
-    «node_clock» = w .«node_clock»;
-    «node_count» = w .«node_count»;
-    «anchor_state» = w .«anchor_state»;
-    «anchor_count» = w .«anchor_count»;
-    «property_value» = w .«property_value»;
-    «property_count» = w .«property_count»;
+    nodes = record { states = w .«node_states»; clocks = w .«node_clocks»; counts = w .«node_counts» };
+    anchors = record { states = w .«anchor_states»; counts = w .«anchor_counts» };
+    properties = record { values = w .«property_values»; counts = w .«property_counts» };
   };
-  log = logOf bytes (w .at);
+  log = logOf (w .written) bytes;
   firings = w .firings;
-  limited = w .limited;
 }

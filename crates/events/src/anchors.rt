@@ -5,37 +5,40 @@ use super::changes::transition_of;
 use super::log::emit;
 use base::index_of;
 use machine::Anchors;
+use machine::terms;
 ghost use mathlib.Core.Path.{_≡_};
 ghost use mathlib.Core.Bool.{_&&_};
 ghost use Prim.Native.Nat.{ℕ, _+_, _<_, _≤_};
 ghost use lib.ListN.{getD};
 ghost use Rattle.base.specs.Tests.{if_then_else_, _=?_};
 ghost use Rattle.base.specs.Marks.{Marked};
-ghost use Rattle.machine.specs.Terms.{toAbort, noTransition};
+ghost use Rattle.machine.specs.Terms.{noTransition};
 ghost use Rattle.machine.specs.Events.{transition, anchorsMoved};
-ghost use Rattle.events.specs.Running.{on};
-ghost use Rattle.events.specs.Parts.{selects, dueNext};
+ghost use Rattle.events.specs.Running.{run};
+ghost use Rattle.events.specs.Parts.{moves, dueNext};
 
-// Whether an anchor moves: on start (1) one that begins at the clock, with no action (0) an awake one that ends at it, else an awake one.
-fn selected(action: u8, clock: u16, begin: u16, end: u16, state: u8) -> bool
-    ensures { λ r. ⌜ r ≡ selects action clock begin end state ⌝ }
-{
-    if action == 1 {
-        return begin == clock;
-    }
-    if action == 0 {
-        if state == 0 {
-            return false;
-        }
-        return end == clock;
-    }
-    state != 0
+// Which anchors of a media move: those that begin at a clock, those awake that end at it, those awake.
+pub enum Moving {
+    BeginningAt(u16),
+    EndingAt(u16),
+    Awake,
 }
 
-// The transition of an anchor of a media to the new state; 0 if it is not one of media n that move.
+// Whether an anchor moves.
+fn moves(moving: Moving, begin: u16, end: u16, state: u8) -> bool
+    ensures { λ r. ⌜ r ≡ moves moving begin end state ⌝ }
+{
+    match moving {
+        Moving::BeginningAt(clock) => begin == clock,
+        Moving::EndingAt(clock) => (state != terms::SLEEPING) & (end == clock),
+        Moving::Awake => state != terms::SLEEPING,
+    }
+}
+
+// The transition of an anchor of a media to the new state; none if it is not one of media n that move.
 fn anchor_transition(
-    action: u8,
-    clock: u16,
+    moving: Moving,
+    aborting: bool,
     n: usize,
     media: u8,
     begin: u16,
@@ -43,15 +46,16 @@ fn anchor_transition(
     state: u8,
     new: u8,
 ) -> u8
-    ensures { λ r. ⌜ r ≡ (if media =? n && selects action clock begin end state then transition (action =? toAbort) state new else noTransition) ⌝ }
+    ensures { λ r. ⌜ r ≡ (if media =? n && moves moving begin end state
+        then transition aborting state new else noTransition) ⌝ }
 {
     if index_of(media) != n {
-        return 0;
+        return terms::NO_TRANSITION;
     }
-    if selected(action, clock, begin, end, state) {
-        return transition_of(action == 3, state, new);
+    if moves(moving, begin, end, state) {
+        return transition_of(aborting, state, new);
     }
-    0
+    terms::NO_TRANSITION
 }
 
 // The anchors of media n that move go to the state, in id order.
@@ -59,13 +63,14 @@ pub fn move_anchors(
     anchors: Anchors,
     w: Work,
     log: &mut [u8],
-    action: u8,
-    clock: u16,
+    moving: Moving,
+    aborting: bool,
     n: usize,
     state: u8,
 ) -> Work
     requires { ⌜ anchors .count ≤ 128 ⌝ }
-    ensures { λ r. ⌜ on r (now (log .exit)) ≡ anchorsMoved anchors (selects action clock) (action =? toAbort) n state (on w (now (log .entry))) ⌝ }
+    ensures { λ r. ⌜ run r (now (log .exit))
+        ≡ anchorsMoved anchors (moves moving) aborting n state (run w (now (log .entry))) ⌝ }
 {
     let mut t = w;
     let end = anchors.count;
@@ -74,21 +79,21 @@ pub fn move_anchors(
         let a = next;
         next += 1;
         let change = anchor_transition(
-            action,
-            clock,
+            moving,
+            aborting,
             n,
             anchors.media[a],
             anchors.begins[a],
             anchors.ends[a],
-            t.anchor_state[a],
+            t.anchor_states[a],
             state,
         );
-        if change != 0 {
-            let at = emit(&mut *log, t.at, 2, a as u8, change);
-            t.at = at;
-            t.anchor_state[a] = state;
-            let count = count_after(change, t.anchor_count[a]);
-            t.anchor_count[a] = count;
+        if change != terms::NO_TRANSITION {
+            let written = emit(&mut *log, t.written, terms::OF_ANCHOR, a as u8, change);
+            t.written = written;
+            t.anchor_states[a] = state;
+            let count = count_after(change, t.anchor_counts[a]);
+            t.anchor_counts[a] = count;
         }
     }
     t

@@ -1,38 +1,39 @@
 // An event goes from one state to another, and the line that says so is logged.
 use super::Work;
 use super::log::emit;
+use machine::terms;
 ghost use mathlib.Core.Path.{_≡_};
 ghost use Prim.Native.Nat.{_<_};
 ghost use Rattle.machine.specs.Events.{transition, counted, clocked, nodeTo, setProperty};
-ghost use Rattle.events.specs.Running.{on};
+ghost use Rattle.events.specs.Running.{run};
 
-// The transition from a state to another; 0: none.
+// The transition from a state to another.
 pub fn transition_of(aborting: bool, old: u8, new: u8) -> u8
     ensures { λ r. ⌜ r ≡ transition aborting old new ⌝ }
 {
     if old == new {
-        return 0;
+        return terms::NO_TRANSITION;
     }
-    if new == 0 {
+    if new == terms::SLEEPING {
         if aborting {
-            return 3;
+            return terms::ABORTS;
         }
-        return 2;
+        return terms::STOPS;
     }
-    if old == 0 {
-        return 1;
+    if old == terms::SLEEPING {
+        return terms::STARTS;
     }
-    if new == 1 {
-        return 5;
+    if new == terms::OCCURRING {
+        return terms::RESUMES;
     }
-    4
+    terms::PAUSES
 }
 
 // The occurrence count after a transition.
 pub fn count_after(change: u8, count: u32) -> u32
     ensures { λ r. ⌜ r ≡ counted change count ⌝ }
 {
-    if change == 2 {
+    if change == terms::STOPS {
         return std::num::wrapping_add_u32(count, 1);
     }
     count
@@ -42,7 +43,7 @@ pub fn count_after(change: u8, count: u32) -> u32
 fn clock_after(change: u8, clock: u16) -> u16
     ensures { λ r. ⌜ r ≡ clocked change clock ⌝ }
 {
-    if change <= 3 {
+    if change <= terms::ABORTS {
         return 0;
     }
     clock
@@ -51,35 +52,41 @@ fn clock_after(change: u8, clock: u16) -> u16
 // Node n goes to the state.
 pub fn node_to(w: Work, log: &mut [u8], aborting: bool, n: usize, state: u8) -> Work
     requires { ⌜ n < 64 ⌝ }
-    ensures { λ r. ⌜ on r (now (log .exit)) ≡ nodeTo aborting n state (on w (now (log .entry))) ⌝ }
+    ensures { λ r. ⌜ run r (now (log .exit)) ≡ nodeTo aborting n state (run w (now (log .entry))) ⌝ }
 {
-    let states = w.node_state;
+    let states = w.node_states;
     let change = transition_of(aborting, states[n], state);
-    if change == 0 {
+    if change == terms::NO_TRANSITION {
         return w;
     }
     let mut t = w;
-    let at = emit(log, t.at, 1, n as u8, change);
-    t.at = at;
-    t.node_state[n] = state;
-    let clock = clock_after(change, t.node_clock[n]);
-    t.node_clock[n] = clock;
-    let count = count_after(change, t.node_count[n]);
-    t.node_count[n] = count;
+    let written = emit(log, t.written, terms::OF_NODE, n as u8, change);
+    t.written = written;
+    t.node_states[n] = state;
+    let clock = clock_after(change, t.node_clocks[n]);
+    t.node_clocks[n] = clock;
+    let count = count_after(change, t.node_counts[n]);
+    t.node_counts[n] = count;
     t
 }
 
 // Property p takes the value.
 pub fn set_property(w: Work, log: &mut [u8], p: usize, value: i32) -> Work
     requires { ⌜ p < 32 ⌝ }
-    ensures { λ r. ⌜ on r (now (log .exit)) ≡ setProperty p value (on w (now (log .entry))) ⌝ }
+    ensures { λ r. ⌜ run r (now (log .exit)) ≡ setProperty p value (run w (now (log .entry))) ⌝ }
 {
     let mut t = w;
-    let first = emit(&mut *log, t.at, 3, p as u8, 1);
-    t.property_value[p] = value;
-    let second = emit(log, first, 3, p as u8, 2);
-    t.at = second;
-    let count = count_after(2, t.property_count[p]);
-    t.property_count[p] = count;
+    let first = emit(
+        &mut *log,
+        t.written,
+        terms::OF_PROPERTY,
+        p as u8,
+        terms::STARTS,
+    );
+    t.property_values[p] = value;
+    let second = emit(log, first, terms::OF_PROPERTY, p as u8, terms::STOPS);
+    t.written = second;
+    let count = count_after(terms::STOPS, t.property_counts[p]);
+    t.property_counts[p] = count;
     t
 }

@@ -6,6 +6,7 @@ use machine::Document;
 use machine::Nodes;
 use machine::Ports;
 use machine::Rules;
+use machine::terms;
 use rules::rule_holds;
 ghost use mathlib.Core.Path.{_≡_};
 ghost use mathlib.Core.Bool.{not, _&&_};
@@ -34,13 +35,13 @@ pub fn start_of(nodes: Nodes, states: [u8; 64], n: usize) -> Start
     requires { ⌜ n < 64 ⌝ }
     ensures { λ r. ⌜ r ≡ startOf nodes states n ⌝ }
 {
-    if nodes.types[n] == 1 {
+    if nodes.types[n] == terms::MEDIA {
         return Start::Media(n);
     }
-    if states[n] != 0 {
+    if states[n] != terms::SLEEPING {
         return Start::Nothing;
     }
-    if nodes.types[n] == 0 {
+    if nodes.types[n] == terms::CONTEXT {
         return Start::Context(n);
     }
     Start::Switch(n)
@@ -63,7 +64,7 @@ fn bind_rule_holds(rules: Rules, values: [i32; 32], rule: u8) -> bool
     requires { ⌜ SoundRules 32 rules × ((rule ≡ noId → ⊥) → rule < rules .count) ⌝ }
     ensures { λ r. ⌜ r ≡ (not (rule =? noId) && ruleHolds rules values rule) ⌝ }
 {
-    if rule == 255 {
+    if rule == terms::NO_ID {
         return false;
     }
     let id = index_of(rule);
@@ -100,7 +101,7 @@ fn first_default(binds: Binds, n: usize) -> usize
         let b = next;
         next += 1;
         if index_of(binds.switches[b]) == n {
-            if binds.rules[b] == 255 {
+            if binds.rules[b] == terms::NO_ID {
                 return b;
             }
         }
@@ -123,15 +124,15 @@ fn found_bind(binds: Binds, rules: Rules, values: [i32; 32], n: usize) -> usize
 // What switch n starts by the bind that it finds.
 pub fn bind_start(d: Document, w: Work, n: usize) -> Start
     requires { ⌜ Sound d ⌝ }
-    ensures { λ r. ⌜ r ≡ bindStart d (w .«property_value») (w .«node_state») n ⌝ }
+    ensures { λ r. ⌜ r ≡ bindStart d (w .«property_values») (w .«node_states») n ⌝ }
 {
     let binds = d.binds;
-    let values = w.property_value;
+    let values = w.property_values;
     let b = found_bind(binds, d.rules, values, n);
     if b >= binds.count {
         return Start::Nothing;
     }
     let child = index_of(binds.children[b]);
-    let states = w.node_state;
+    let states = w.node_states;
     start_of(d.nodes, states, child)
 }

@@ -4,11 +4,12 @@ use super::changes::node_to;
 use super::media::is_below;
 use base::index_of;
 use machine::Nodes;
+use machine::terms;
 ghost use mathlib.Core.Path.{_≡_};
 ghost use Prim.Native.Nat.{_<_};
 ghost use Rattle.machine.specs.Events.{abortsAt, settled};
 ghost use Rattle.machine.specs.Sound.{SoundNodes};
-ghost use Rattle.events.specs.Running.{on};
+ghost use Rattle.events.specs.Running.{run};
 ghost use Rattle.events.specs.Parts.{resettled, withChild};
 
 // Whether composite c logs aborts where it goes to sleep.
@@ -16,7 +17,7 @@ fn aborts_at(nodes: Nodes, action: u8, target: usize, c: usize) -> bool
     requires { ⌜ SoundNodes nodes × (c < nodes .count) ⌝ }
     ensures { λ r. ⌜ r ≡ abortsAt nodes action target c ⌝ }
 {
-    if action != 3 {
+    if action != terms::TO_ABORT {
         return false;
     }
     is_below(nodes, target, c)
@@ -26,7 +27,7 @@ fn aborts_at(nodes: Nodes, action: u8, target: usize, c: usize) -> bool
 fn resettles(node_type: u8, state: u8, children: u8) -> bool
     ensures { λ r. ⌜ r ≡ resettled «node_type» state children ⌝ }
 {
-    if node_type == 1 {
+    if node_type == terms::MEDIA {
         return false;
     }
     state != children
@@ -36,34 +37,34 @@ fn resettles(node_type: u8, state: u8, children: u8) -> bool
 fn with_child(state: u8, child: u8) -> u8
     ensures { λ r. ⌜ r ≡ withChild state child ⌝ }
 {
-    if child == 1 {
-        return 1;
+    if child == terms::OCCURRING {
+        return terms::OCCURRING;
     }
-    if state != 0 {
+    if state != terms::SLEEPING {
         return state;
     }
-    if child == 2 {
-        return 2;
+    if child == terms::PAUSED {
+        return terms::PAUSED;
     }
-    0
+    terms::SLEEPING
 }
 
 // Composites by descending id. A child has a later id than its parent: where a composite is come to, the states of all its children are gathered.
 pub fn settle(nodes: Nodes, w: Work, log: &mut [u8], action: u8, target: usize) -> Work
     requires { ⌜ SoundNodes nodes ⌝ }
-    ensures { λ r. ⌜ on r (now (log .exit)) ≡ settled nodes action target (on w (now (log .entry))) ⌝ }
+    ensures { λ r. ⌜ run r (now (log .exit)) ≡ settled nodes action target (run w (now (log .entry))) ⌝ }
 {
     let mut t = w;
-    let mut gathered: [u8; 256] = [0; 256];
+    let mut gathered: [u8; 256] = [terms::SLEEPING; 256];
     let mut n = nodes.count;
     while 0 < n {
         n -= 1;
-        if resettles(nodes.types[n], t.node_state[n], gathered[n]) {
+        if resettles(nodes.types[n], t.node_states[n], gathered[n]) {
             let aborting = aborts_at(nodes, action, target, n);
             t = node_to(t, &mut *log, aborting, n, gathered[n]);
         }
         let parent = index_of(nodes.parents[n]);
-        let state = with_child(gathered[parent], t.node_state[n]);
+        let state = with_child(gathered[parent], t.node_states[n]);
         gathered[parent] = state;
     }
     t

@@ -1,9 +1,9 @@
 -- `chain::fire` meets its contract. Assumes nothing.
-use Rattle.base.specs.Tests.{if_then_else_}
-use Rattle.machine.specs.Chain.{limitMet, fired}
-use borrow.Author.Tests.{lt-ltb, le-ltb}
-use native.Mathlib.Omega.{arith}
+use mathlib.Core.Path.{_∙_}
 use borrow.Author.Needs.{needs}
+use borrow.Author.Tests.{lt-ltb, le-ltb}
+use Rattle.base.specs.Tests.{if_then_else_}
+use Rattle.machine.specs.Chain.{fired, limitMet}
 use Rattle.chain.proofs.fire.Statement.{statement}
 use Rattle.chain.proofs.fire.Tie as tie
 
@@ -18,9 +18,7 @@ fire-spec =
     (λ c.
     let the-if1 = c .before .before .before .before .before .before .before .before .if1 in
     let the-log-firing = c .before .before .before .before .before .before .log-firing in
-    let the-run-actions = c .before .before .run-actions in
-    rw (lt-ltb _ _ (the-if1 .taken), ← the-log-firing .ensures) (the-run-actions .ensures))  -- returns
-    (λ c.
-    let the-if1 = c .if1 in
-    rw (le-ltb _ _ (the-if1 .left)))  -- returns-2
+    rw (lt-ltb _ _ (the-if1 .taken), ← the-log-firing .ensures) (c .before .before .run-actions .ensures))  -- returns
+    (λ c κs. search needs)  -- meet-requires
+    (λ c. rw (le-ltb _ _ (c .before .if1 .left), c .meet .ensures _))  -- returns-2
     )

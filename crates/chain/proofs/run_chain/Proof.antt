@@ -4,54 +4,63 @@ use Prim.Native.Nat.{_≤_, _-_}
 use native.Mathlib.Omega.{arith}
 use native.Mathlib.Nat.{sub-zero}
 use lib.ListN.{length}
-use Rattle.base.specs.Loops.{ascending, ascending-none, ascending-more, ascending-done}
-use Rattle.machine.specs.Chain.{linkTried, lineTaken, linesTaken, chained}
-use Rattle.events.specs.Running.{on}
-use Rattle.events.specs.LogSlice.{logOf-has-room, logOf-has, logOf-lacks}
-use Rattle.chain.proofs.ChainLaws.{heard, not-heard, chain-more, chain-stop, chain-done}
 use borrow.Author.Needs.{needs}
+use Rattle.base.specs.Tests.{not-true, not-false}
+use Rattle.base.specs.Loops.{ascending, ascending-none, ascending-more, ascending-done}
+use Rattle.machine.specs.Chain.{goesOn, linkTried, lineTaken, linesTaken, chained}
+use Rattle.events.specs.Running.{run}
+use Rattle.events.specs.LogSlice.{lines-have, lines-lack}
+use Rattle.chain.proofs.ChainLaws.{heard, not-heard, chain-more, chain-stopped, chain-ended, chain-done}
 use Rattle.chain.proofs.run_chain.Statement.{statement}
 use Rattle.chain.proofs.run_chain.Tie as tie
 
 abbrev Inv-loop2 : tie.InvT-loop2
-Inv-loop2 d log₀ t₀ links end room next k at x link₀ log t link = (link ≤ end) × (length log ≡ length log₀) × (on t log ≡ ascending (linkTried d x) link (on t₀ log₀))
+Inv-loop2 d log₀ t₀ links end room next k lines x link₀ log t link = (link ≤ end) × (length log ≡ length log₀) × (run t log ≡ ascending (linkTried d x) link (run t₀ log₀))
 
 abbrev μ-loop2 : tie.MeasureT-loop2
-μ-loop2 d log₀ t₀ links end room next k at x link₀ log t link = end - link
+μ-loop2 d log₀ t₀ links end room next k lines x link₀ log t link = end - link
 
 abbrev Inv-loop : tie.InvT-loop
-Inv-loop d log₀ t₀ links end room next₀ log t next = (next ≤ room) × (length log ≡ length log₀) × (linesTaken d (room - next) next (on t log) ≡ chained d (on t₀ log₀))
+Inv-loop d log₀ t₀ links end room next₀ log t next = (next ≤ room) × (length log ≡ length log₀) × (linesTaken d (room - next) next (run t log) ≡ chained d (run t₀ log₀))
 
 abbrev μ-loop : tie.MeasureT-loop
 μ-loop d log₀ t₀ links end room next₀ log t next = room - next
 
 pub run-chain-spec : {M : Type 1} → statement M
-unfolding chained lineTaken
+unfolding chained lineTaken goesOn
 run-chain-spec =
     tie.close
     (tie.spec
     Inv-loop2 μ-loop2 Inv-loop μ-loop
-    (λ c. (omega arith, refl, rw (logOf-has-room, sub-zero)))  -- loop-holds
+    (λ c. (omega arith, refl, rw (sub-zero)))  -- loop-holds
+    (λ c κs. search needs)  -- goes-on-requires
+    (λ c. c .before .before .before .loop .inv .1)  -- same-length
     (λ c.
-    let the-loop = c .before .before .loop in
-    the-loop .inv .1)  -- same-length
-    (λ c.
-    let the-loop = c .before .before .loop in
-    let the-loop-test = c .before .loop-test in
+    let the-loop = c .before .before .before .loop in
+    let the-loop-test = c .before .before .loop-test in
+    let the-goes-on = c .before .goes-on in
     let the-if1 = c .if1 in
-    chain-stop _ _ _ _ (the-loop .inv .2) (the-loop-test .taken) (logOf-lacks _ _ _ (the-if1 .taken) (omega arith)))  -- returns
+    chain-stopped _ _ _ _ (the-loop .inv .2) (the-loop-test .taken) (sym (the-goes-on .ensures) ∙ not-true _ (the-if1 .taken)))  -- returns
+    (λ c.
+    let the-loop = c .before .before .before .before .loop in
+    the-loop .inv .1)  -- same-length-2
+    (λ c.
+    let the-loop = c .before .before .before .before .loop in
+    chain-ended _ _ _ _ (the-loop .inv .2) (c .before .before .before .loop-test .taken) (lines-lack _ _ _ (c .if2 .taken) (omega arith)))  -- returns-2
     (λ c. search needs)  -- add-next
     (λ c κs. search needs)  -- line-at-requires
     (λ c. (omega arith, refl, ascending-none _ _))  -- loop2-holds
     (λ c. search needs)  -- loop-less
     (λ c.
     let the-loop2 = c .before .loop2 in
-    let the-loop = c .before .before .before .before .before .before .loop in
-    let the-entry = c .before .before .before .before .before .before .before .before .before in
+    let the-loop = c .before .before .before .before .before .before .before .before .loop in
+    let the-entry = c .before .before .before .before .before .before .before .before .before .before .before in
     let the-line-at = c .before .before .line-at in
-    let the-loop-test = c .before .before .before .before .before .loop-test in
-    let the-if1 = c .before .before .before .before .if1 in
-    (omega arith, the-loop2 .inv .1 ∙ the-loop .inv .1, rw (ascending-done _ _ (the-entry .args .d .links .count) _ (omega arith) (the-loop2 .inv .2), the-line-at .ensures) (chain-more _ _ _ _ (the-loop .inv .2) (the-loop-test .taken) (logOf-has _ _ _ (the-if1 .left) (omega arith)))))  -- loop-again
+    let the-loop-test = c .before .before .before .before .before .before .before .loop-test in
+    let the-goes-on = c .before .before .before .before .before .before .goes-on in
+    let the-if1 = c .before .before .before .before .before .if1 in
+    let the-if2 = c .before .before .before .before .if2 in
+    (omega arith, the-loop2 .inv .1 ∙ the-loop .inv .1, rw (ascending-done _ _ (the-entry .args .d .links .count) _ (omega arith) (the-loop2 .inv .2), the-line-at .ensures) (chain-more _ _ _ _ (the-loop .inv .2) (the-loop-test .taken) (sym (the-goes-on .ensures) ∙ not-false _ (the-if1 .left)) (lines-have _ _ _ (the-if2 .left) (omega arith)))))  -- loop-again
     (λ c. search needs)  -- add-link
     (λ c. search needs)  -- element-copy-out-hears
     (λ c. search needs)  -- element-copy-out-hears-2
@@ -59,7 +68,7 @@ run-chain-spec =
     (λ c κs. search needs)  -- hears-requires
     (λ c. search needs)  -- element-copy-out-try-link
     (λ c κs.
-    let the-entry = c .before .before .before .before .before .before .before .before .before .before .before .before .before .before .before .before in
+    let the-entry = c .before .before .before .before .before .before .before .before .before .before .before .before .before .before .before .before .before .before in
     let the-loop2-test = c .before .before .before .before .before .before .before .loop2-test in
     (the-entry .pre, (the-loop2-test .taken, refl)))  -- try-link-requires
     (λ c. search needs)  -- loop2-less
@@ -68,19 +77,12 @@ run-chain-spec =
     let the-try-link = c .before .before .try-link in
     let the-loop2 = c .before .before .before .before .before .before .before .before .before .before .before .loop2 in
     let the-hears = c .before .before .before .before .before .before .hears in
-    let the-if2 = c .before .before .before .before .before .if2 in
-    (omega (arith, the-loop2-test), the-try-link .kept .1 .1 .0 ∙ the-loop2 .inv .1, ascending-more _ _ _ (the-loop2 .inv .2) (heard _ _ _ _ (sym (the-hears .ensures) ∙ the-if2 .taken) (the-try-link .ensures))))  -- loop2-again
+    let the-if3 = c .before .before .before .before .before .if3 in
+    (omega (arith, the-loop2-test), the-try-link .kept .1 .1 .0 ∙ the-loop2 .inv .1, ascending-more _ _ _ (the-loop2 .inv .2) (heard _ _ _ _ (sym (the-hears .ensures) ∙ the-if3 .taken) (the-try-link .ensures))))  -- loop2-again
     (λ c. search needs)  -- loop2-less-2
     (λ c.
     let the-loop2 = c .before .before .before .before .before .before .loop2 in
-    let the-hears = c .before .hears in
-    let the-if2 = c .if2 in
-    (omega arith, the-loop2 .inv .1, ascending-more _ _ _ (the-loop2 .inv .2) (not-heard _ _ _ _ (sym (the-hears .ensures) ∙ the-if2 .left))))  -- loop2-again-2
-    (λ c.
-    let the-loop = c .before .loop in
-    the-loop .inv .1)  -- same-length-2
-    (λ c.
-    let the-loop = c .before .loop in
-    let the-loop-test = c .loop-test in
-    chain-done _ _ _ _ (the-loop .inv .2) (the-loop-test .left))  -- returns-2
+    (omega arith, the-loop2 .inv .1, ascending-more _ _ _ (the-loop2 .inv .2) (not-heard _ _ _ _ (sym (c .before .hears .ensures) ∙ c .if3 .left))))  -- loop2-again-2
+    (λ c. c .before .loop .inv .1)  -- same-length-3
+    (λ c. chain-done _ _ _ _ (c .before .loop .inv .2) (c .loop-test .left))  -- returns-3
     )

@@ -1,5 +1,5 @@
 -- `events::work_of` meets its contract. Assumes nothing.
-use Rattle.events.specs.LogSlice.{logOf-none}
+use Rattle.events.specs.LogSlice.{lines-none}
 use Rattle.events.proofs.work_of.Statement.{statement}
 use Rattle.events.proofs.work_of.Tie as tie
 
@@ -7,5 +7,5 @@ pub work-of-spec : {M : Type 1} → statement M
 work-of-spec =
     tie.close
     (tie.spec
-    (λ c. λ bytes. rw (logOf-none bytes))  -- returns
+    (λ c. λ bytes. rw (lines-none bytes))  -- returns
     )

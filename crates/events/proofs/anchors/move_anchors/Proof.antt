@@ -1,17 +1,16 @@
 -- `events::anchors::move_anchors` meets its contract. Assumes nothing.
-use Rattle.events.proofs.Prelude.{_≡_, refl, _∙_, _≤_, _-_, length, ascending, ascending-none, ascending-more, ascending-done, needs, arith, eq-eqb, ne-eqb, if_then_else_, on}
-use Rattle.base.specs.Tests.{_=?_}
+use Rattle.events.proofs.Prelude.{_≡_, refl, _∙_, _≤_, _-_, length, ascending, ascending-none, ascending-more, ascending-done, needs, arith, eq-eqb, ne-eqb, if_then_else_, run}
 use Rattle.machine.specs.Events.{anchorMoved, anchorsMoved, anchorChanged}
-use Rattle.events.specs.Parts.{selects}
+use Rattle.events.specs.Parts.{moves}
 use Rattle.events.proofs.AnchorLaws.{anchor-moved}
 use Rattle.events.proofs.anchors.move_anchors.Statement.{statement}
 use Rattle.events.proofs.anchors.move_anchors.Tie as tie
 
 abbrev Inv-loop : tie.InvT-loop
-Inv-loop log₀ action clock n state anchors t₀ end next₀ log t next = (next ≤ end) × (length log ≡ length log₀) × (on t log ≡ ascending (anchorMoved anchors (selects action clock) (action =? 3) n state) next (on t₀ log₀))
+Inv-loop log₀ moving aborting n state anchors t₀ end next₀ log t next = (next ≤ end) × (length log ≡ length log₀) × (run t log ≡ ascending (anchorMoved anchors (moves moving) aborting n state) next (run t₀ log₀))
 
 abbrev μ-loop : tie.MeasureT-loop
-μ-loop log₀ action clock n state anchors t₀ end next₀ log t next = end - next
+μ-loop log₀ moving aborting n state anchors t₀ end next₀ log t next = end - next
 
 pub move-anchors-spec : {M : Type 1} → statement M
 unfolding if_then_else_ anchorsMoved anchorChanged
@@ -39,9 +38,9 @@ move-anchors-spec =
     (λ c. search needs)  -- loop-less
     (λ c.
     let the-emit = c .before .before .before .before .emit in
-    let the-loop = c .before .before .before .before .before .before .before .before .before .before .before .before .before .loop in
-    let the-anchor-transition = c .before .before .before .before .before .before .before .anchor-transition in
-    let the-if1 = c .before .before .before .before .before .before .if1 in
+    let the-loop = c .before .before .before .before .before .before .before .before .before .before .before .before .before .before .loop in
+    let the-anchor-transition = c .before .before .before .before .before .before .before .before .anchor-transition in
+    let the-if1 = c .before .before .before .before .before .before .before .if1 in
     let the-count-after = c .count-after in
     (omega arith, the-emit .kept .0 ∙ the-loop .inv .1, ascending-more _ _ _ (the-loop .inv .2) (anchor-moved _ _ _ _ _ _ _ _ (the-anchor-transition .ensures) (rw (ne-eqb _ _ (the-if1 .taken), ← the-emit .ensures, ← the-count-after .ensures)))))  -- loop-again
     (λ c. search needs)  -- loop-less-2
@@ -50,10 +49,6 @@ move-anchors-spec =
     let the-anchor-transition = c .before .anchor-transition in
     let the-if1 = c .if1 in
     (omega arith, the-loop .inv .1, ascending-more _ _ _ (the-loop .inv .2) (anchor-moved _ _ _ _ _ _ _ _ (the-anchor-transition .ensures) (rw (eq-eqb _ _ (the-if1 .left))))))  -- loop-again-2
-    (λ c.
-    let the-loop = c .before .loop in
-    the-loop .inv .1)  -- same-length
-    (λ c.
-    let the-loop = c .before .loop in
-    ascending-done _ _ _ _ (omega arith) (the-loop .inv .2))  -- returns
+    (λ c. c .before .loop .inv .1)  -- same-length
+    (λ c. ascending-done _ _ _ _ (omega arith) (c .before .loop .inv .2))  -- returns
     )

@@ -11,10 +11,7 @@ node-to-spec =
     (tie.spec
     (λ c. search needs)  -- array-read-transition-of
     (λ c κs. search needs)  -- transition-of-requires
-    (λ c.
-    let the-transition-of = c .before .transition-of in
-    let the-if1 = c .if1 in
-    rw (← the-transition-of .ensures, eq-eqb _ _ (the-if1 .taken)))  -- returns
+    (λ c. rw (← c .before .transition-of .ensures, eq-eqb _ _ (c .if1 .taken)))  -- returns
     (λ c. search needs)  -- cast-emit
     (λ c κs. search needs)  -- emit-requires
     (λ c. search needs)  -- element-write-t
@@ -30,8 +27,8 @@ node-to-spec =
     (λ c. search needs)  -- element-write-t-3
     (λ c. search needs)  -- same-length
     (λ c.
-    let the-transition-of = c .before .before .before .before .before .before .before .before .before .transition-of in
-    let the-if1 = c .before .before .before .before .before .before .before .before .if1 in
+    let the-transition-of = c .before .before .before .before .before .before .before .before .before .before .transition-of in
+    let the-if1 = c .before .before .before .before .before .before .before .before .before .if1 in
     let the-emit = c .before .before .before .before .before .before .emit in
     let the-clock-after = c .before .before .clock-after in
     let the-count-after = c .count-after in

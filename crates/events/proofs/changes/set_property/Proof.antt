@@ -25,7 +25,6 @@ set-property-spec =
     (λ c.
     let the-emit = c .before .before .before .before .before .before .before .before .emit in
     let the-emit2 = c .before .before .before .before .emit2 in
-    let the-count-after = c .count-after in
-    let the-entry = c .before .before .before .before .before .before .before .before .before .before .before in
-    rw (← the-emit .ensures, ← the-emit2 .ensures, ← the-count-after .ensures, toZ-ofZ (the-entry .fits .value)))  -- returns
+    let the-entry = c .before .before .before .before .before .before .before .before .before .before .before .before in
+    rw (← the-emit .ensures, ← the-emit2 .ensures, ← c .count-after .ensures, toZ-ofZ (the-entry .fits .value)))  -- returns
     )

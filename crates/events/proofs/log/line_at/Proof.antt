@@ -1,6 +1,6 @@
 -- `events::log::line_at` meets its contract. Assumes nothing.
 use Rattle.events.proofs.Prelude.{sym, arith, needs}
-use Rattle.events.specs.LogSlice.{logOf-line}
+use Rattle.events.specs.LogSlice.{line-in}
 use Rattle.events.proofs.log.line_at.Statement.{statement}
 use Rattle.events.proofs.log.line_at.Tie as tie
 
@@ -16,5 +16,5 @@ line-at-spec =
     (λ c. search needs)  -- shared-slice-read-t12
     (λ c. search needs)  -- add-t13
     (λ c. search needs)  -- shared-slice-read-t15
-    (λ c. sym (logOf-line _ _ _ _ (omega arith) (omega arith)))  -- returns
+    (λ c. sym (line-in _ _ _ _ (omega arith) (omega arith)))  -- returns
     )

@@ -1,7 +1,6 @@
 -- `events::media::move_media` meets its contract. Assumes nothing.
 use Rattle.events.proofs.Prelude.{_∙_, arith, needs, eq-eqb, ne-eqb, if_then_else_}
 use Rattle.machine.specs.Events.{mediaMoved, mediaTo}
-use Rattle.events.proofs.AnchorLaws.{selects-follows}
 use Rattle.events.proofs.media.move_media.Statement.{statement}
 use Rattle.events.proofs.media.move_media.Tie as tie
 
@@ -12,33 +11,31 @@ move-media-spec =
     (tie.spec
     (λ c. search needs)  -- array-read-old
     (λ c κs. search needs)  -- next-state-requires
-    (λ c.
-    let the-if1 = c .if1 in
-    let the-next-state = c .before .next-state in
-    rw (eq-eqb _ _ (the-if1 .taken ∙ the-next-state .ensures)))  -- returns
+    (λ c. rw (eq-eqb _ _ (c .if1 .taken ∙ c .before .next-state .ensures)))  -- returns
+    (λ c κs. search needs)  -- following-requires
     (λ c κs. search needs)  -- line-first-requires
     (λ c κs. search needs)  -- node-to-requires
     (λ c κs. search needs)  -- move-anchors-requires
     (λ c. search needs)  -- same-length
     (λ c.
-    let the-next-state = c .before .before .before .before .before .before .before .before .before .before .before .next-state in
-    let the-if1 = c .before .before .before .before .before .before .before .before .before .before .if1 in
+    let the-next-state = c .before .before .before .before .before .before .before .before .before .before .before .before .next-state in
+    let the-if1 = c .before .before .before .before .before .before .before .before .before .before .before .if1 in
     let the-line-first = c .before .before .before .before .before .before .before .before .before .line-first in
     let the-if2 = c .before .before .before .before .before .before .before .before .if2 in
     let the-node-to = c .before .before .before .before .before .before .node-to in
-    let the-entry = c .before .before .before .before .before .before .before .before .before .before .before .before .before .before in
+    let the-following = c .before .before .before .before .before .before .before .before .before .before .following in
     let the-move-anchors = c .before .before .move-anchors in
-    rw (← the-next-state .ensures, ne-eqb _ _ (the-if1 .left), ← the-line-first .ensures, the-if2 .taken, ← the-node-to .ensures, ← selects-follows (the-entry .args .action) (omega arith)) (the-move-anchors .ensures))  -- returns-2
+    rw (← the-next-state .ensures, ne-eqb _ _ (the-if1 .left), ← the-line-first .ensures, the-if2 .taken, ← the-node-to .ensures, ← the-following .ensures) (the-move-anchors .ensures))  -- returns-2
     (λ c κs. search needs)  -- move-anchors-requires-2
     (λ c κs. search needs)  -- node-to-requires-2
     (λ c. search needs)  -- same-length-2
     (λ c.
-    let the-next-state = c .before .before .before .before .before .before .before .before .before .before .before .next-state in
-    let the-if1 = c .before .before .before .before .before .before .before .before .before .before .if1 in
+    let the-next-state = c .before .before .before .before .before .before .before .before .before .before .before .before .next-state in
+    let the-if1 = c .before .before .before .before .before .before .before .before .before .before .before .if1 in
     let the-line-first = c .before .before .before .before .before .before .before .before .before .line-first in
     let the-if2 = c .before .before .before .before .before .before .before .before .if2 in
-    let the-entry = c .before .before .before .before .before .before .before .before .before .before .before .before .before .before in
+    let the-following = c .before .before .before .before .before .before .before .before .before .before .following in
     let the-move-anchors2 = c .before .before .before .before .before .before .move-anchors2 in
     let the-node-to2 = c .before .before .node-to2 in
-    rw (← the-next-state .ensures, ne-eqb _ _ (the-if1 .left), ← the-line-first .ensures, the-if2 .left, ← selects-follows (the-entry .args .action) (omega arith), ← the-move-anchors2 .ensures) (the-node-to2 .ensures))  -- returns-3
+    rw (← the-next-state .ensures, ne-eqb _ _ (the-if1 .left), ← the-line-first .ensures, the-if2 .left, ← the-following .ensures, ← the-move-anchors2 .ensures) (the-node-to2 .ensures))  -- returns-3
     )

@@ -1,5 +1,5 @@
 -- The cycle of calls of `start_context` and `start_switch`: a child's id is above its parent's, so 64 less the id falls. Assumes nothing.
-use Rattle.events.proofs.Prelude.{ℕ, _≡_, refl, sym, _∙_, _≤_, _<_, _+_, _-_, arith, needs, length, ascending, ascending-none, ascending-more, ascending-done, on}
+use Rattle.events.proofs.Prelude.{ℕ, _≡_, refl, sym, _∙_, _≤_, _<_, _+_, _-_, arith, needs, length, ascending, ascending-none, ascending-more, ascending-done, run}
 use Rattle.machine.specs.Events.{Run, portStarted, contextStarted, switchStarted, started}
 use Rattle.events.proofs.StartLaws.{startFrom, Deeper, Reaches, port-reaches, port-started, bind-reaches, bind-started}
 use borrow.Fn.Kinds.{In}
@@ -35,7 +35,7 @@ abbrev start-switch-below : ℕ → In 1 start-switch-kinds.ps
 start-switch-below t = and 1 start-switch-kinds.ps (falls 1 start-switch-kinds.ps _<_ μ-start-switch t) start-switch.Pre
 
 abbrev start-context-Inv-loop : start-context-lts.InvT-loop
-start-context-Inv-loop d log₀ n t₀ end next₀ log t next = (next ≤ end) × (length log ≡ length log₀) × ((levels : ℕ) → 64 ≤ n + (levels + 1) → on t log ≡ ascending (portStarted d (started d levels) n) next (on t₀ log₀))
+start-context-Inv-loop d log₀ n t₀ end next₀ log t next = (next ≤ end) × (length log ≡ length log₀) × ((levels : ℕ) → 64 ≤ n + (levels + 1) → run t log ≡ ascending (portStarted d (started d levels) n) next (run t₀ log₀))
 
 abbrev start-context-μ-loop : start-context-lts.MeasureT-loop
 start-context-μ-loop d log₀ n t₀ end next₀ log t next = end - next
@@ -61,13 +61,13 @@ module _ (t : ℕ) where
       let d = entry .args .d in
       let loop = i .before .before .before .loop in
       (levels : ℕ) → 64 ≤ entry .args .n + (levels + 1)
-      → z ≡ startFrom d (started d (levels - 1)) (i .port-start .result) (on (loop .t) (loop .log))
-      → z ≡ ascending (portStarted d (started d levels) (entry .args .n)) (loop .next + 1) (on (entry .args .w) (entry .args .log .now))
+      → z ≡ startFrom d (started d (levels - 1)) (i .port-start .result) (run (loop .t) (loop .log))
+      → z ≡ ascending (portStarted d (started d levels) (entry .args .n)) (loop .next + 1) (run (entry .args .w) (entry .args .log .now))
   port-turn i levels b p =
       let entry = i .before .before .before .before .before in
       let loop = i .before .before .before .loop in
       ascending-more _ _ _ (loop .inv .2 levels b)
-      (p ∙ sym (port-started (entry .args .d) (entry .pre .1) _ (loop .next) (i .before .before .loop-test .taken) levels b (on (loop .t) (loop .log)) _ (i .port-start .ensures)))
+      (p ∙ sym (port-started (entry .args .d) (entry .pre .1) _ (loop .next) (i .before .before .loop-test .taken) levels b (run (loop .t) (loop .log)) _ (i .port-start .ensures)))
 
   -- where it is known what a switch starts
   abbrev AtBind : Type 0
@@ -79,12 +79,12 @@ module _ (t : ℕ) where
   bind-turn : {z : Run} (i : AtBind) →
       let entry = i .before .before in
       let d = entry .args .d in
-      let run = on (entry .args .w) (entry .args .log .now) in
+      let first = run (entry .args .w) (entry .args .log .now) in
       (levels : ℕ) → 64 ≤ entry .args .n + (levels + 1)
-      → z ≡ startFrom d (started d (levels - 1)) (i .bind-start .result) run → z ≡ switchStarted d (started d levels) (entry .args .n) run
+      → z ≡ startFrom d (started d (levels - 1)) (i .bind-start .result) first → z ≡ switchStarted d (started d levels) (entry .args .n) first
   bind-turn i levels b p =
       let entry = i .before .before in
-      p ∙ sym (bind-started (entry .args .d) (entry .pre .1) _ levels b (on (entry .args .w) (entry .args .log .now)) _ (i .bind-start .ensures))
+      p ∙ sym (bind-started (entry .args .d) (entry .pre .1) _ levels b (run (entry .args .w) (entry .args .log .now)) _ (i .bind-start .ensures))
 
 pub +start-context+start-switch-spec : {M : Type 1} → statement M
 unfolding contextStarted
@@ -144,8 +144,7 @@ unfolding contextStarted
     (λ c.
     let the-loop-test = c .before .before .before .before .loop-test in
     let the-loop = c .before .before .before .before .before .loop in
-    let the-enum-told = c .enum-told in
-    (omega (arith, the-loop-test), the-loop .inv .1, λ l b. port-turn t (c .before .before) l b (rw (the-enum-told .given .1))))  -- loop-again-4
+    (omega (arith, the-loop-test), the-loop .inv .1, λ l b. port-turn t (c .before .before) l b (rw (c .enum-told .given .1))))  -- loop-again-4
     (λ c. c .before .loop .inv .1)  -- same-length
     (λ c. λ l b. ascending-done _ _ _ _ (omega arith) (c .before .loop .inv .2 l b))  -- returns
     )
@@ -170,21 +169,18 @@ unfolding contextStarted
     (λ c. search needs)  -- same-length
     (λ c.
     let the-start = c .before .before .before .before .before .start in
-    let the-move-media = c .before .before .move-media in
-    λ l b. bind-turn t (c .before .before .before .before .before .before .before) l b (rw (the-start .given .1) (the-move-media .ensures)))  -- returns
+    λ l b. bind-turn t (c .before .before .before .before .before .before .before) l b (rw (the-start .given .1) (c .before .before .move-media .ensures)))  -- returns
     (λ c. search needs)  -- same-length-2
     (λ c.
     let the-start2 = c .before .before .before .before .before .start2 in
-    let the-start-context = c .before .before .start-context in
     λ l b. let i = (c .before .before .before .before .before .before .before) in
     let e = rw (the-start2 .given .1) at (bind-deeper t i) in
-    bind-turn t i l b (rw (the-start2 .given .1) (the-start-context .ensures (l - 1) (omega (arith, e)))))  -- returns-2
+    bind-turn t i l b (rw (the-start2 .given .1) (c .before .before .start-context .ensures (l - 1) (omega (arith, e)))))  -- returns-2
     (λ c. search needs)  -- same-length-3
     (λ c.
     let the-start3 = c .before .before .before .before .before .start3 in
-    let the-start-switch = c .before .before .start-switch in
     λ l b. let i = (c .before .before .before .before .before .before .before) in
     let e = rw (the-start3 .given .1) at (bind-deeper t i) in
-    bind-turn t i l b (rw (the-start3 .given .1) (the-start-switch .ensures (l - 1) (omega (arith, e)))))  -- returns-3
+    bind-turn t i l b (rw (the-start3 .given .1) (c .before .before .start-switch .ensures (l - 1) (omega (arith, e)))))  -- returns-3
     (λ c. λ l b. bind-turn t (c .before .before) l b (rw (c .enum-told .given .1)))  -- returns-4
     )

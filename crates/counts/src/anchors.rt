@@ -39,7 +39,12 @@ fn apart_from_earlier(
     b: usize,
 ) -> bool
     requires { ⌜ b < 128 ⌝ }
-    ensures { λ r. ⌜ ((t : Anchors) → b < t .count → t .media ≡ now (media .entry) → t .begins ≡ now (begins .entry) → t .ends ≡ now (ends .entry) → r ≡ apartFromEarlier t m b) ⌝ }
+    ensures { λ r. ⌜ ((t : Anchors)
+        → b < t .count
+        → t .media ≡ now (media .entry)
+        → t .begins ≡ now (begins .entry)
+        → t .ends ≡ now (ends .entry)
+        → r ≡ apartFromEarlier t m b) ⌝ }
 {
     if media[b] != m {
         return true;
@@ -76,7 +81,10 @@ pub fn disjoint(anchors: Anchors, m: u8) -> bool
 // With the number of links that set the property, for each anchor whose start they are on.
 pub fn each_has_one_link(anchors: Anchors, m: u8, linked: [u8; 256]) -> bool
     requires { ⌜ anchors .count ≤ 128 ⌝ }
-    ensures { λ r. ⌜ ((d : Document) (p : ℕ) → d .anchors ≡ anchors → Numbered (isCountLinkOf d p) (d .links .count) linked → r ≡ eachHasOneLink d m p) ⌝ }
+    ensures { λ r. ⌜ ((d : Document) (p : ℕ)
+        → d .anchors ≡ anchors
+        → Numbered (isCountLinkOf d p) (d .links .count) linked
+        → r ≡ eachHasOneLink d m p) ⌝ }
 {
     let count = anchors.count;
     let mut each = true;

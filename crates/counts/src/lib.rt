@@ -12,9 +12,9 @@ ghost use Rattle.machine.specs.Answers.{conditionNumber};
 ghost use Rattle.machine.specs.Tables.{anchorAt};
 ghost use Rattle.machine.specs.Counts.{firstFailing, failing, showsCounts, countOf};
 ghost use Rattle.machine.specs.Sound.{Sound};
-ghost use Rattle.counts.specs.Checks.{checkNumber};
+ghost use Rattle.counts.specs.Verdicts.{verdictNumber};
 
-pub enum Check {
+pub enum Verdict {
     Passed,
     Failed(Condition),
 }
@@ -27,34 +27,35 @@ fn first_of(
     each_sets_once: bool,
     each_unguarded: bool,
     no_other: bool,
-) -> Check
-    ensures { λ c. ⌜ checkNumber c ≡ firstFailing 1 («has_anchor» ∷ disjoint ∷ «each_has_one_link» ∷ «each_sets_once» ∷ «each_unguarded» ∷ «no_other» ∷ []) ⌝ }
+) -> Verdict
+    ensures { λ c. ⌜ verdictNumber c ≡ firstFailing 1 («has_anchor» ∷ disjoint ∷ «each_has_one_link»
+        ∷ «each_sets_once» ∷ «each_unguarded» ∷ «no_other» ∷ []) ⌝ }
 {
     if !has_anchor {
-        return Check::Failed(Condition::HasAnchor);
+        return Verdict::Failed(Condition::HasAnchor);
     }
     if !disjoint {
-        return Check::Failed(Condition::AnchorsDisjoint);
+        return Verdict::Failed(Condition::AnchorsDisjoint);
     }
     if !each_has_one_link {
-        return Check::Failed(Condition::EachHasOneLink);
+        return Verdict::Failed(Condition::EachHasOneLink);
     }
     if !each_sets_once {
-        return Check::Failed(Condition::EachSetsOnce);
+        return Verdict::Failed(Condition::EachSetsOnce);
     }
     if !each_unguarded {
-        return Check::Failed(Condition::EachUnguarded);
+        return Verdict::Failed(Condition::EachUnguarded);
     }
     if !no_other {
-        return Check::Failed(Condition::NoOtherAction);
+        return Verdict::Failed(Condition::NoOtherAction);
     }
-    Check::Passed
+    Verdict::Passed
 }
 
 // The first condition that fails for a media and a property.
-pub fn first_failing(d: Document, media: u8, property: u8) -> Check
+pub fn first_failing(d: Document, media: u8, property: u8) -> Verdict
     requires { ⌜ Sound d ⌝ }
-    ensures { λ c. ⌜ checkNumber c ≡ failing d media property ⌝ }
+    ensures { λ c. ⌜ verdictNumber c ≡ failing d media property ⌝ }
 {
     let has_anchor = anchors::has_anchor(d.anchors, media);
     let disjoint = anchors::disjoint(d.anchors, media);
@@ -73,7 +74,9 @@ pub fn first_failing(d: Document, media: u8, property: u8) -> Check
 
 // The count of an anchor whose media's counts the document shows.
 pub fn count_of(d: Document, property: u8, anchor: u8) -> i32
-    requires { ⌜ Sound d × (anchor < d .anchors .count) × (showsCounts d (anchorAt (d .anchors) anchor .media) property ≡ true) ⌝ }
+    requires { ⌜ Sound d
+        × (anchor < d .anchors .count)
+        × (showsCounts d (anchorAt (d .anchors) anchor .media) property ≡ true) ⌝ }
     ensures { λ r. ⌜ r ≡ countOf d property anchor ⌝ }
 {
     let l = links::count_link(d, property, anchor);

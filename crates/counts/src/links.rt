@@ -1,6 +1,7 @@
 // The conditions on the links that set a property.
 use base::index_of;
 use machine::Document;
+use machine::terms;
 ghost use mathlib.Core.Path.{_≡_};
 ghost use mathlib.Core.Bool.{_&&_};
 ghost use Prim.Native.Nat.{_+_, _<_, _≤_};
@@ -24,7 +25,7 @@ pub struct Findings {
 fn sets(action: u8, target: u8, property: u8) -> bool
     ensures { λ r. ⌜ r ≡ action =? toSet && target =? property ⌝ }
 {
-    (action == 6) & (target == property)
+    (action == terms::TO_SET) & (target == property)
 }
 
 fn one_more_if(number: u8, passes: bool) -> u8
@@ -40,7 +41,11 @@ fn one_more_if(number: u8, passes: bool) -> u8
 // How many actions of a link with so many set the property.
 fn times_set(actions: &[u8; 512], targets: &[u8; 512], link: usize, count: u8, property: u8) -> u8
     requires { ⌜ (link < 64) × (count ≤ 8) ⌝ }
-    ensures { λ r. ⌜ ((d : Document) → d .actions .actions ≡ now (actions .entry) → d .actions .targets ≡ now (targets .entry) → actionCount (d .links) link ≡ count → r ≡ timesSet d property link) ⌝ }
+    ensures { λ r. ⌜ ((d : Document)
+        → d .actions .actions ≡ now (actions .entry)
+        → d .actions .targets ≡ now (targets .entry)
+        → actionCount (d .links) link ≡ count
+        → r ≡ timesSet d property link) ⌝ }
 {
     let end = index_of(count);
     let mut times = 0u8;
@@ -58,7 +63,7 @@ fn times_set(actions: &[u8; 512], targets: &[u8; 512], link: usize, count: u8, p
 fn is_count_link(class: u8, transition: u8, times: u8) -> bool
     ensures { λ r. ⌜ r ≡ class =? ofAnchor && transition =? starts && 0 <? times ⌝ }
 {
-    (class == 2) & (transition == 1) & (0 < times)
+    (class == terms::OF_ANCHOR) & (transition == terms::STARTS) & (0 < times)
 }
 
 // Anchor `a` of so many is of media m.
@@ -74,7 +79,10 @@ fn is_anchor_of(media: &[u8; 128], count: usize, m: u8, a: usize) -> bool
 
 pub fn sweep(d: Document, m: u8, property: u8) -> Findings
     requires { ⌜ Sound d ⌝ }
-    ensures { λ r. ⌜ Numbered (isCountLinkOf d property) (d .links .count) (r .linked) × (r .«each_sets_once» ≡ eachSetsOnce d m property) × (r .«each_unguarded» ≡ eachUnguarded d m property) × (r .«no_other» ≡ noOther d m property) ⌝ }
+    ensures { λ r. ⌜ Numbered (isCountLinkOf d property) (d .links .count) (r .linked)
+        × (r .«each_sets_once» ≡ eachSetsOnce d m property)
+        × (r .«each_unguarded» ≡ eachUnguarded d m property)
+        × (r .«no_other» ≡ noOther d m property) ⌝ }
 {
     let anchors = d.anchors;
     let media = anchors.media;
@@ -97,7 +105,7 @@ pub fn sweep(d: Document, m: u8, property: u8) -> Findings
         linked[a] = number;
         let own = is_anchor_of(&media, anchors.count, m, a) & sets_count;
         each_sets_once = each_sets_once & (!own | (times == 1));
-        each_unguarded = each_unguarded & (!own | (links.guards[l] == 255));
+        each_unguarded = each_unguarded & (!own | (links.guards[l] == terms::NO_ID));
         no_other = no_other & ((times == 0) | own);
     }
     Findings {
@@ -140,7 +148,11 @@ pub fn count_action(
     property: u8,
 ) -> usize
     requires { ⌜ (link < 64) × (count ≤ 8) ⌝ }
-    ensures { λ r. ⌜ ((d : Document) → d .actions .actions ≡ now (actions .entry) → d .actions .targets ≡ now (targets .entry) → actionCount (d .links) link ≡ count → r ≡ countAction d property link) ⌝ }
+    ensures { λ r. ⌜ ((d : Document)
+        → d .actions .actions ≡ now (actions .entry)
+        → d .actions .targets ≡ now (targets .entry)
+        → actionCount (d .links) link ≡ count
+        → r ≡ countAction d property link) ⌝ }
 {
     let end = index_of(count);
     let mut next = 0;

@@ -12,7 +12,7 @@ use Rattle.base.specs.Tests.{if_then_else_, _<?_, both-pass, not-false}
 use Rattle.machine.specs.Terms.{ofProperty}
 use Rattle.machine.specs.Tables.{anchorAt}
 use Rattle.machine.specs.Answers.{Answer, refused, readAnswer, countAnswer}
-use Rattle.machine.specs.Operations.{Call, CallResult, call, sessionAfter, resultsOf, joined, readState, read}
+use Rattle.machine.specs.Operations.{CallResult, call, sessionAfter, resultsOf, joined, readState, read}
 use Rattle.machine.specs.Load.{LoadResult}
 use Rattle.machine.specs.Counts.{failing, showsCounts, countOf, withCount, giveCount, valueOf, NeverSets, CountsShown}
 use Rattle.machine.proofs.Keep.{chosen}
@@ -21,6 +21,7 @@ use Rattle.machine.proofs.Showing.{check-shows}
 use Rattle.machine.proofs.Counting.{counts}
 use Rattle.machine.specs.declared.State.{State}
 use Rattle.machine.specs.declared.Session.{Session}
+use Rattle.machine.specs.declared.Call.{Call}
 use Rattle.machine.specs.declared.Reading.{Reading}
 use Rattle.machine.specs.declared.ReadAnswer.the-variants.{Found}
 use Rattle.machine.specs.declared.CountAnswer.the-variants.{Count}

@@ -1,3 +1,2 @@
-mod Ends
-mod Conditions
+mod ReadEvents
 pub mod JoinedProof

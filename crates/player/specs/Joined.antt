@@ -9,11 +9,12 @@ use Rattle.machine.specs.Terms.{ofProperty}
 use Rattle.machine.specs.Tables.{anchorAt}
 use Rattle.machine.specs.Answers.{readAnswer, countsAnswer, countAnswer}
 use Rattle.machine.specs.Events.{nodeState, nodeClock}
-use Rattle.machine.specs.Operations.{Call, CallResult, call, read, joined}
+use Rattle.machine.specs.Operations.{CallResult, commandSets, call, read, joined}
 use Rattle.machine.specs.Load.{load}
 use Rattle.machine.specs.Demand3.{Holds, Awake, Inside}
-use Rattle.machine.specs.Counts.{checkCounts, giveCount, commandSets, valueOf, CountsShown}
+use Rattle.machine.specs.Counts.{checkCounts, giveCount, valueOf, CountsShown}
 use Rattle.machine.specs.declared.Session.{Session}
+use Rattle.machine.specs.declared.Call.{Call}
 use Rattle.machine.specs.declared.Called.{Called}
 use Rattle.machine.specs.declared.Loaded.{Loaded}
 use Rattle.machine.specs.declared.Reading.{Reading}

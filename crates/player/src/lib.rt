@@ -1,29 +1,40 @@
 // The report player: the crate to link. Any session, any arguments and a log slice of any length may be handed in.
-use counts::Check;
 use events::Work;
+use machine::ActionRecord;
+use machine::AnchorEvents;
+use machine::Call;
 use machine::CallAnswer;
 use machine::Called;
+use machine::Check;
 use machine::CountAnswer;
 use machine::CountsAnswer;
+use machine::Document;
 use machine::Loaded;
+use machine::NodeEvents;
+use machine::PropertyEvents;
 use machine::ReadAnswer;
 use machine::Reading;
 use machine::Refusal;
 use machine::Session;
 use machine::State;
+use machine::terms;
+use records::checks::action_right;
+use records::checks::target_given;
 ghost use mathlib.Core.Path.{_≡_};
 ghost use mathlib.Core.Bool.{_&&_};
-ghost use lib.ListN.{length};
-ghost use Rattle.base.specs.Tests.{_<?_};
-ghost use Rattle.machine.specs.Answers.{numberOf, readAnswer, countsAnswer, countAnswer};
+ghost use Prim.Native.Nat.{_<_};
+ghost use lib.IntN.{pos};
+ghost use lib.ListN.{length, getD};
+ghost use Rattle.base.specs.Tests.{_<?_, _≤?_};
+ghost use Rattle.machine.specs.Answers.{numberOf, checkNumber, readAnswer, countsAnswer, countAnswer};
 ghost use Rattle.machine.specs.Load.{load};
-ghost use Rattle.machine.specs.Chain.{chained};
-ghost use Rattle.machine.specs.Operations.{Call, callRefused, ended, call, readState, isRead, read};
+ghost use Rattle.machine.specs.Terms.{sleeping, ofNode, ofProperty};
+ghost use Rattle.machine.specs.Operations.{command, argumentFault, begun, runOf, callRefused, ended, call, reading, readState, read};
 ghost use Rattle.machine.specs.Counts.{checkCounts, giveCount};
 ghost use Rattle.machine.specs.Sound.{Sound};
 ghost use Rattle.document.specs.Loading.{loadResult};
-ghost use Rattle.events.specs.Running.{on};
-ghost use Rattle.player.specs.Promises.{callResult};
+ghost use Rattle.events.specs.Running.{run};
+ghost use Rattle.player.specs.Promises.{callResult, Within};
 
 // ---- load
 
@@ -36,7 +47,8 @@ pub fn load(document: &[u8]) -> Loaded
 // ---- the end of a call
 
 fn refuse(s: Session, refusal: Refusal, log: &mut [u8]) -> Called
-    ensures { λ r. ⌜ callResult r (now (log .exit)) ≡ callRefused (numberOf refusal) s (length (now (log .entry))) ⌝ }
+    ensures { λ r. ⌜ callResult r (now (log .exit))
+        ≡ callRefused (numberOf refusal) s (length (now (log .entry))) ⌝ }
 {
     events::log::clear(log, 0);
     Called {
@@ -46,100 +58,163 @@ fn refuse(s: Session, refusal: Refusal, log: &mut [u8]) -> Called
 }
 
 fn end(s: Session, w: Work, log: &mut [u8]) -> Called
-    ensures { λ r. ⌜ callResult r (now (log .exit)) ≡ ended s (length (now (log .entry))) (on w (now (log .entry))) ⌝ }
+    ensures { λ r. ⌜ callResult r (now (log .exit))
+        ≡ ended s (length (now (log .entry))) (run w (now (log .entry))) ⌝ }
 {
-    let at = w.at;
-    if log.len() / 4 < at {
-        return refuse(s, Refusal::LogFull, log);
+    let written = w.written;
+    let stop = written.stop;
+    match stop {
+        Check::Passed => {
+            events::log::clear(log, written.lines);
+            let document = s.document;
+            Called {
+                answer: CallAnswer::Accepted(w.firings),
+                session: Session {
+                    document,
+                    state: events::state_of(w),
+                },
+            }
+        }
+        Check::Refused(refusal) => refuse(s, refusal, log),
     }
-    if w.limited {
-        return refuse(s, Refusal::LimitReached, log);
-    }
-    events::log::clear(log, at);
-    let document = s.document;
-    Called {
-        answer: CallAnswer::Accepted(w.firings),
-        session: Session {
-            document,
-            state: events::state_of(w),
-        },
-    }
-}
-
-// The chain, and the end of the call.
-fn finish(s: Session, w: Work, log: &mut [u8]) -> Called
-    requires { ⌜ Sound (s .document) ⌝ }
-    ensures { λ r. ⌜ callResult r (now (log .exit)) ≡ ended s (length (now (log .entry))) (chained (s .document) (on w (now (log .entry)))) ⌝ }
-{
-    let v = chain::run_chain(s.document, w, &mut *log);
-    end(s, v, log)
 }
 
 // ---- the calls
 
-pub fn command(s: Session, action: u8, target: u8, value: i32, log: &mut [u8]) -> Called
-    ensures { λ r. ⌜ callResult r (now (log .exit)) ≡ call s (Call.command action target value) (length (now (log .entry))) ⌝ }
+// The refusals 9 and 10.
+fn check_arguments(d: Document, c: Call) -> Check
+    ensures { λ r. ⌜ checkNumber r ≡ argumentFault d c ⌝ }
+{
+    match c {
+        Call::Command(a) => {
+            if !action_right(a.action, a.value) {
+                return Check::Refused(Refusal::BadArgument);
+            }
+            let nodes = d.nodes;
+            if !target_given(a.action, a.target, nodes.count, d.properties) {
+                return Check::Refused(Refusal::NoSuchId);
+            }
+            Check::Passed
+        }
+        Call::Key(_) => Check::Passed,
+        Call::Tick => Check::Passed,
+    }
+}
+
+// What a call does before the chain.
+fn begin(d: Document, w: Work, log: &mut [u8], c: Call) -> Work
+    requires { ⌜ Sound d × (argumentFault d c ≡ 0) ⌝ }
+    ensures { λ r. ⌜ run r (now (log .exit)) ≡ begun d c (run w (now (log .entry))) ⌝ }
+{
+    match c {
+        Call::Command(a) => events::acting::act(d, w, log, a),
+        Call::Key(code) => events::ticking::key(w, log, code),
+        Call::Tick => events::ticking::tick(d, w, log),
+    }
+}
+
+// A call whose session and arguments are right.
+fn run_call(s: Session, c: Call, log: &mut [u8]) -> Called
+    requires { ⌜ Sound (s .document) × (argumentFault (s .document) c ≡ 0) ⌝ }
+    ensures { λ r. ⌜ callResult r (now (log .exit))
+        ≡ ended s (length (now (log .entry))) (runOf s c (length (now (log .entry)))) ⌝ }
+{
+    let d = s.document;
+    let w = begin(d, events::work_of(s.state), &mut *log, c);
+    let v = chain::run_chain(d, w, &mut *log);
+    end(s, v, log)
+}
+
+pub fn call(s: Session, c: Call, log: &mut [u8]) -> Called
+    ensures { λ r. ⌜ callResult r (now (log .exit)) ≡ call s c (length (now (log .entry))) ⌝ }
 {
     if session_check::is_broken(s) {
         return refuse(s, Refusal::BrokenSession, log);
     }
-    if !records::checks::action_right(action, value) {
-        return refuse(s, Refusal::BadArgument, log);
+    let check = check_arguments(s.document, c);
+    match check {
+        Check::Passed => run_call(s, c, log),
+        Check::Refused(refusal) => refuse(s, refusal, log),
     }
-    let d = s.document;
-    let nodes = d.nodes;
-    if !records::checks::target_given(action, target, nodes.count, d.properties) {
-        return refuse(s, Refusal::NoSuchId, log);
-    }
-    let w = events::work_of(s.state);
-    let v = events::acting::act(d, w, &mut *log, action, base::index_of(target), value);
-    finish(s, v, log)
+}
+
+pub fn command(s: Session, action: u8, target: u8, value: i32, log: &mut [u8]) -> Called
+    ensures { λ r. ⌜ callResult r (now (log .exit))
+        ≡ call s (command action target value) (length (now (log .entry))) ⌝ }
+{
+    call(
+        s,
+        Call::Command(ActionRecord {
+            action,
+            target,
+            value,
+        }),
+        log,
+    )
 }
 
 pub fn key(s: Session, code: u8, log: &mut [u8]) -> Called
-    ensures { λ r. ⌜ callResult r (now (log .exit)) ≡ call s (Call.key code) (length (now (log .entry))) ⌝ }
+    ensures { λ r. ⌜ callResult r (now (log .exit)) ≡ call s (Call.Key code) (length (now (log .entry))) ⌝ }
 {
-    if session_check::is_broken(s) {
-        return refuse(s, Refusal::BrokenSession, log);
-    }
-    let w = events::work_of(s.state);
-    let v = events::ticking::key(w, &mut *log, code);
-    finish(s, v, log)
+    call(s, Call::Key(code), log)
 }
 
 pub fn tick(s: Session, log: &mut [u8]) -> Called
-    ensures { λ r. ⌜ callResult r (now (log .exit)) ≡ call s Call.tick (length (now (log .entry))) ⌝ }
+    ensures { λ r. ⌜ callResult r (now (log .exit)) ≡ call s Call.Tick (length (now (log .entry))) ⌝ }
 {
-    if session_check::is_broken(s) {
-        return refuse(s, Refusal::BrokenSession, log);
-    }
-    let w = events::work_of(s.state);
-    let v = events::ticking::tick(s.document, w, &mut *log);
-    finish(s, v, log)
+    call(s, Call::Tick, log)
 }
 
 // ---- read
 
-fn reads(class: u8) -> bool
-    ensures { λ r. ⌜ r ≡ isRead class ⌝ }
+fn class_is_read(class: u8) -> bool
+    ensures { λ r. ⌜ r ≡ ofNode ≤? class && class ≤? ofProperty ⌝ }
 {
-    if class == 1 {
-        return true;
-    }
-    if class == 2 {
-        return true;
-    }
-    class == 3
+    (terms::OF_NODE <= class) & (class <= terms::OF_PROPERTY)
 }
 
-fn found(state: u8, value: i32, count: u32) -> ReadAnswer
-    ensures { λ r. ⌜ r ≡ ReadAnswer.Found (record { state = state; value = value; count = count }) ⌝ }
+fn read_node(t: NodeEvents, n: usize) -> ReadAnswer
+    requires { ⌜ n < 64 ⌝ }
+    ensures { λ r. ⌜ readAnswer r ≡ reading (getD (t .states) n 0) (pos 0) (getD (t .counts) n 0) ⌝ }
 {
     ReadAnswer::Found(Reading {
-        state,
-        value,
-        count,
+        state: t.states[n],
+        value: 0,
+        count: t.counts[n],
     })
+}
+
+fn read_anchor(t: AnchorEvents, a: usize) -> ReadAnswer
+    requires { ⌜ a < 128 ⌝ }
+    ensures { λ r. ⌜ readAnswer r ≡ reading (getD (t .states) a 0) (pos 0) (getD (t .counts) a 0) ⌝ }
+{
+    ReadAnswer::Found(Reading {
+        state: t.states[a],
+        value: 0,
+        count: t.counts[a],
+    })
+}
+
+fn read_property(t: PropertyEvents, p: usize) -> ReadAnswer
+    requires { ⌜ p < 32 ⌝ }
+    ensures { λ r. ⌜ readAnswer r ≡ reading sleeping (getD (t .values) p (pos 0)) (getD (t .counts) p 0) ⌝ }
+{
+    ReadAnswer::Found(Reading {
+        state: terms::SLEEPING,
+        value: t.values[p],
+        count: t.counts[p],
+    })
+}
+
+fn read_event(s: State, class: u8, id: usize) -> ReadAnswer
+    requires { ⌜ Within class id ⌝ }
+    ensures { λ r. ⌜ readAnswer r ≡ readState s class id ⌝ }
+{
+    match class {
+        terms::OF_NODE => read_node(s.nodes, id),
+        terms::OF_ANCHOR => read_anchor(s.anchors, id),
+        _ => read_property(s.properties, id),
+    }
 }
 
 pub fn read(s: Session, class: u8, id: u8) -> ReadAnswer
@@ -148,7 +223,7 @@ pub fn read(s: Session, class: u8, id: u8) -> ReadAnswer
     if session_check::is_broken(s) {
         return ReadAnswer::Refused(Refusal::BrokenSession);
     }
-    if !reads(class) {
+    if !class_is_read(class) {
         return ReadAnswer::Refused(Refusal::BadArgument);
     }
     let d = s.document;
@@ -157,15 +232,7 @@ pub fn read(s: Session, class: u8, id: u8) -> ReadAnswer
     if !records::checks::subject_given(class, id, nodes.count, anchors.count, d.properties) {
         return ReadAnswer::Refused(Refusal::NoSuchId);
     }
-    let i = base::index_of(id);
-    let state = s.state;
-    if class == 1 {
-        return found(state.node_state[i], 0, state.node_count[i]);
-    }
-    if class == 2 {
-        return found(state.anchor_state[i], 0, state.anchor_count[i]);
-    }
-    found(0, state.property_value[i], state.property_count[i])
+    read_event(s.state, class, base::index_of(id))
 }
 
 // ---- the check for report authors
@@ -188,13 +255,13 @@ pub fn check_counts(s: Session, media: u8, property: u8) -> CountsAnswer
     if !both_given(media, nodes.count, property, d.properties) {
         return CountsAnswer::Refused(Refusal::NoSuchId);
     }
-    if nodes.types[media as usize] != 1 {
+    if nodes.types[media as usize] != terms::MEDIA {
         return CountsAnswer::Refused(Refusal::NoSuchId);
     }
     let check = counts::first_failing(d, media, property);
     match check {
-        Check::Passed => CountsAnswer::Shown,
-        Check::Failed(condition) => CountsAnswer::Fails(condition),
+        counts::Verdict::Passed => CountsAnswer::Shown,
+        counts::Verdict::Failed(condition) => CountsAnswer::Fails(condition),
     }
 }
 
@@ -211,7 +278,7 @@ pub fn count_of(s: Session, anchor: u8, property: u8) -> CountAnswer
     }
     let check = counts::first_failing(d, anchors.media[anchor as usize], property);
     match check {
-        Check::Passed => CountAnswer::Count(counts::count_of(d, property, anchor)),
-        Check::Failed(condition) => CountAnswer::Fails(condition),
+        counts::Verdict::Passed => CountAnswer::Count(counts::count_of(d, property, anchor)),
+        counts::Verdict::Failed(condition) => CountAnswer::Fails(condition),
     }
 }

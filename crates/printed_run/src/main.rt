@@ -6,17 +6,18 @@ use machine::CallAnswer;
 use machine::Called;
 use machine::LoadAnswer;
 use machine::Session;
-use printing::script::ScriptCall;
+use printing::script::LONGEST_RECORD;
 use printing::script::ScriptRecord;
 ghost use mathlib.Core.Path.{_≡_};
-ghost use Prim.Native.Nat.{_+_, _*_, _≤_};
+ghost use Prim.Native.Nat.{_+_, _*_, _<_, _≤_};
 ghost use lib.ListN.{length};
+ghost use Rattle.machine.specs.PrintedRun.{longestRecord};
 
 // A run of a script, with the bytes that are read of a record, and whether it goes on.
 struct ScriptRun {
     session: Session,
     number: u64,
-    record: [u8; 7],
+    record: [u8; LONGEST_RECORD],
     size: usize,
     goes_on: bool,
 }
@@ -93,25 +94,11 @@ fn end_lines(lines: Lines, out: &[u8]) -> Lines
 
 // ---- the script, byte by byte
 
-fn perform(s: Session, call: ScriptCall, log: &mut [u8]) -> Called {
-    match call {
-        ScriptCall::Command(action, target, value) => player::command(
-            s,
-            action,
-            target,
-            value,
-            log,
-        ),
-        ScriptCall::Key(code) => player::key(s, code, log),
-        ScriptCall::Tick => player::tick(s, log),
-    }
-}
-
-// A record has at most 7 bytes, so what is cut has at most 6. All lines are written before more of the script is read: whoever feeds it through a pipe sees
-// the lines of what has been read.
+// What is cut of a record has fewer bytes than the longest one. All lines are written before more of the script is read:
+// whoever feeds it through a pipe sees the lines of what has been read.
 fn run_part(run: ScriptRun, bytes: &[u8], log: &mut [u8], out: &mut [u8]) -> ScriptRun
-    requires { ⌜ (50 + 3 * length (now log) ≤ length (now out)) × (run .size ≤ 6) ⌝ }
-    ensures { λ r. ⌜ r .size ≤ 6 ⌝ }
+    requires { ⌜ (50 + 3 * length (now log) ≤ length (now out)) × (run .size < longestRecord) ⌝ }
+    ensures { λ r. ⌜ r .size < longestRecord ⌝ }
 {
     // A session is large: it stays where the last call gave it back. Nobody reads the answer that stands there before the first call.
     let before = run.session;
@@ -133,7 +120,7 @@ fn run_part(run: ScriptRun, bytes: &[u8], log: &mut [u8], out: &mut [u8]) -> Scr
         next += 1;
         match printing::script::record_in(&record[..end]) {
             ScriptRecord::Call(call) => {
-                called = perform(called.session, call, &mut *log);
+                called = player::call(called.session, call, &mut *log);
                 let answer = called.answer;
                 lines = add_line(lines, answer, &*log, &mut *out);
                 size = 0;
@@ -178,7 +165,7 @@ fn end_script(run: ScriptRun, got: isize) {
 // The bytes of the script are in `part`, so many as `first` says, and in the file after those. A proved loop has to end, and nothing says that a file
 // does: the loop counts its turns down, from a number that no run uses up.
 fn run_parts(run: ScriptRun, fd: i32, part: &mut [u8], first: isize, log: &mut [u8], out: &mut [u8])
-    requires { ⌜ (50 + 3 * length (now log) ≤ length (now out)) × (run .size ≤ 6) ⌝ }
+    requires { ⌜ (50 + 3 * length (now log) ≤ length (now out)) × (run .size < longestRecord) ⌝ }
 {
     let mut r = run;
     let mut got = first;
@@ -200,7 +187,7 @@ fn run_script(session: Session, fd: i32, part: &mut [u8], first: isize) {
     let run = ScriptRun {
         session,
         number: 0,
-        record: [0; 7],
+        record: [0; LONGEST_RECORD],
         size: 0,
         goes_on: true,
     };
@@ -251,9 +238,10 @@ fn run_document(document: &[u8], fd: i32, part: &mut [u8], first: isize) {
     }
 }
 
-// The first bytes of both files are read before anything is printed. No document that loads is longer than 5,887 bytes: the head (2 bytes), 64 nodes of 5,
-// 128 anchors of 6, 32 properties of 5, 32 rules of 7, 64 binds of 4, 63 ports of 3, 64 links of 6 and 512 actions of 7. So of a longer one the first
-// faulty record begins at 5,887 at the latest, and within 7 bytes more its bytes are all there: what load answers hangs on no byte after 5,894.
+// The first bytes of both files are read before anything is printed. No document that loads is longer than 5,887 bytes:
+// the head (2 bytes), 64 nodes of 5, 128 anchors of 6, 32 properties of 5, 32 rules of 7, 64 binds of 4, 63 ports of 3,
+// 64 links of 6 and 512 actions of 7. So of a longer one the first faulty record begins at 5,887 at the latest, and within
+// 7 bytes more its bytes are all there: what load answers hangs on no byte after 5,894.
 fn main() {
     let mut document = [0u8; 5895];
     let got = read_document(&mut document);

@@ -2,14 +2,13 @@
 use Prim.Native.Nat.{ℕ, zero, suc, _+_, _*_, _<_, _≤_, _^_}
 use native.Mathlib.Omega.{arith}
 use mathlib.Core.List.{List, [], _∷_, _++_, append-assoc}
-use mathlib.Core.Path.{_≡_, refl}
+use mathlib.Core.Path.{_≡_}
 use lib.ListN.{length, length-append, getD, drop}
-use mathlib.Core.Bool.{true, false}
+use mathlib.Core.Bool.{true}
 use lib.IntN.{pos}
-use Rattle.base.specs.Tests.{if_then_else_, _=?_}
+use Rattle.base.specs.Tests.{if_then_else_}
 use Rattle.machine.specs.declared.Refusal.{Refusal}
-use Rattle.machine.specs.declared.Refusal.the-variants.{CutRecord, UnknownKind, MisplacedHead, TableFull, FieldOutOfRange, UnknownId, Conflict, NoNode, BadArgument, NoSuchId, LimitReached, LogFull, BrokenSession}
-use Rattle.machine.specs.Answers.{accepted, refused, numberOf}
+use Rattle.machine.specs.Answers.{accepted, refused, numberOf, numbered}
 use Rattle.machine.specs.Log.{linesOf}
 use Rattle.machine.specs.PrintedRun.{printedLines, firingsOf, printedCall}
 use Rattle.machine.specs.Text.{text, decimal}
@@ -78,21 +77,6 @@ pub refused-most : (number : ℕ) → number < 256 → length (refusedText numbe
 refused-most number h = omega (arith, refused-length number, byte-length number h)
 
 -- the line of a call: its number, its answer, and the line's end
-no-zero : (refusal : Refusal) → numberOf refusal =? 0 ≡ false
-no-zero CutRecord = refl
-no-zero UnknownKind = refl
-no-zero MisplacedHead = refl
-no-zero TableFull = refl
-no-zero FieldOutOfRange = refl
-no-zero UnknownId = refl
-no-zero Conflict = refl
-no-zero NoNode = refl
-no-zero BadArgument = refl
-no-zero NoSuchId = refl
-no-zero LimitReached = refl
-no-zero LogFull = refl
-no-zero BrokenSession = refl
-
 module _ (number : ℕ) (s : Session) (log : List ℕ) where
   pub accepted-call : (firings : ℕ) → decimal number ++ acceptedText firings log ++ text "\n" ≡ printedCall number (record { answer = accepted (pos firings ∷ []); session = s; log = log })
   unfolding printedCall firingsOf acceptedText if_then_else_
@@ -100,4 +84,4 @@ module _ (number : ℕ) (s : Session) (log : List ℕ) where
 
   pub refused-call : (refusal : Refusal) → decimal number ++ refusedText (numberOf refusal) ++ text "\n" ≡ printedCall number (record { answer = refused (numberOf refusal); session = s; log = log })
   unfolding printedCall refusedText if_then_else_
-  refused-call refusal = rw (no-zero refusal)
+  refused-call refusal = rw (numbered refusal)

@@ -5,7 +5,7 @@ use crate::text::put_number;
 use crate::text::put_text;
 use machine::CallAnswer;
 use machine::Refusal;
-use records::refusals::number_of;
+use machine::number_of;
 ghost use mathlib.Core.Path.{_≡_};
 ghost use mathlib.Core.List.{_++_};
 ghost use Prim.Native.Nat.{_+_, _*_, _≤_};
@@ -53,7 +53,8 @@ fn put_line(out: &mut [u8], at: usize, class: u8, id: u8, transition: u8) -> usi
 
 fn put_lines(out: &mut [u8], at: usize, log: &[u8]) -> usize
     requires { ⌜ at + length (printedLines (linesOf (now log))) ≤ length (now out) ⌝ }
-    ensures { λ r. ⌜ Written (printedLines (linesOf (now (log .entry)))) (now (out .entry)) at (now (out .exit)) r ⌝ }
+    ensures { λ r. ⌜ Written (printedLines (linesOf (now (log .entry))))
+        (now (out .entry)) at (now (out .exit)) r ⌝ }
 {
     let mut next = at;
     let mut place = 0;
@@ -69,7 +70,8 @@ fn put_lines(out: &mut [u8], at: usize, log: &[u8]) -> usize
 
 fn put_accepted(out: &mut [u8], at: usize, firings: u8, log: &[u8]) -> usize
     requires { ⌜ at + length (acceptedText firings (now log)) ≤ length (now out) ⌝ }
-    ensures { λ r. ⌜ Written (acceptedText firings (now (log .entry))) (now (out .entry)) at (now (out .exit)) r ⌝ }
+    ensures { λ r. ⌜ Written (acceptedText firings (now (log .entry)))
+        (now (out .entry)) at (now (out .exit)) r ⌝ }
 {
     let lines = count_lines(log);
     let word_end = put_text(&mut *out, at, b" ok");
@@ -90,7 +92,8 @@ fn put_refused(out: &mut [u8], at: usize, number: u8) -> usize
 
 fn accepted_line(out: &mut [u8], number: u64, firings: u8, log: &[u8]) -> usize
     requires { ⌜ 50 + 3 * length (now log) ≤ length (now out) ⌝ }
-    ensures { λ r. ⌜ Printed (decimal number ++ acceptedText firings (now (log .entry)) ++ text "\n") (now (out .exit)) r ⌝ }
+    ensures { λ r. ⌜ Printed (decimal number ++ acceptedText firings (now (log .entry)) ++ text "\n")
+        (now (out .exit)) r ⌝ }
 {
     let number_end = put_decimal(&mut *out, 0, number);
     let answer_end = put_accepted(&mut *out, number_end, firings, log);
@@ -110,7 +113,8 @@ fn refused_line(out: &mut [u8], number: u64, refusal: u8) -> usize
 pub fn call_line(out: &mut [u8], number: u64, answer: CallAnswer, log: &[u8]) -> usize
     requires { ⌜ 50 + 3 * length (now log) ≤ length (now out) ⌝ }
     ensures front { λ r. ⌜ Front r (now (out .exit)) ⌝ }
-    ensures printed { λ r. ⌜ ((s : Session) → take r (now (out .exit)) ≡ printedCall number (record { answer = callAnswer answer; session = s; log = now (log .entry) })) ⌝ }
+    ensures printed { λ r. ⌜ ((s : Session) → take r (now (out .exit))
+        ≡ printedCall number (record { answer = callAnswer answer; session = s; log = now (log .entry) })) ⌝ }
 {
     match answer {
         CallAnswer::Accepted(firings) => accepted_line(out, number, firings, log),

@@ -1,39 +1,54 @@
 // The records of a script, cut and decoded.
-use records::fields::i32_at;
+use machine::Call;
+use records::fields::action_of;
+use records::fields::byte_at;
 ghost use mathlib.Core.Path.{_≡_};
-ghost use Rattle.printing.specs.Script.{recordAfter, scriptRecord};
+ghost use mathlib.Core.Bool.{not};
+ghost use Rattle.machine.specs.Records.{actionOf};
+ghost use Rattle.machine.specs.PrintedRun.{isScriptKind, scriptLength, callOf};
+ghost use Rattle.printing.specs.Script.{scriptRecord};
 
-// A command's action, target and value; a key's code.
-pub enum ScriptCall {
-    Command(u8, u8, i32),
-    Key(u8),
-    Tick,
-}
+// The length of a record after its kind, by the kind.
+const LENGTHS: [u8; 4] = [0, 6, 1, 0];
 
-// What stands at the front of some bytes of a script. Cut: there is no whole record yet, and more bytes may make one. Wrong: no record begins there,
-// whatever follows.
+// The bytes of the longest record.
+pub const LONGEST_RECORD: usize = 7;
+
+// What stands at the front of some bytes of a script. Cut: there is no whole record yet, and more bytes may make one.
+// Wrong: no record begins there, whatever follows.
 pub enum ScriptRecord {
-    Call(ScriptCall),
+    Call(Call),
     Cut,
     Wrong,
 }
 
-fn command_in(rest: &[u8]) -> ScriptRecord
-    ensures { λ r. ⌜ r ≡ recordAfter 1 (now (rest .entry)) ⌝ }
+fn length_of(kind: usize) -> usize
+    ensures { λ r. ⌜ r ≡ scriptLength kind ⌝ }
 {
-    if rest.len() < 6 {
-        return ScriptRecord::Cut;
-    }
-    ScriptRecord::Call(ScriptCall::Command(rest[0], rest[1], i32_at(rest, 2)))
+    let lengths = LENGTHS;
+    base::index_of(byte_at(&lengths, kind))
 }
 
-fn key_in(rest: &[u8]) -> ScriptRecord
-    ensures { λ r. ⌜ r ≡ recordAfter 2 (now (rest .entry)) ⌝ }
+fn command_of(body: &[u8]) -> Call
+    ensures { λ r. ⌜ r ≡ Call.Command (actionOf (now (body .entry))) ⌝ }
 {
-    if rest.len() < 1 {
-        return ScriptRecord::Cut;
+    Call::Command(action_of(body))
+}
+
+fn call_of(kind: usize, body: &[u8]) -> Call
+    ensures { λ r. ⌜ r ≡ callOf kind (now (body .entry)) ⌝ }
+{
+    match kind {
+        1 => command_of(body),
+        2 => Call::Key(byte_at(body, 0)),
+        _ => Call::Tick,
     }
-    ScriptRecord::Call(ScriptCall::Key(rest[0]))
+}
+
+fn is_unknown(kind: usize) -> bool
+    ensures { λ b. ⌜ b ≡ not (isScriptKind kind) ⌝ }
+{
+    !((1 <= kind) & (kind <= 3))
 }
 
 pub fn record_in(bytes: &[u8]) -> ScriptRecord
@@ -42,12 +57,14 @@ pub fn record_in(bytes: &[u8]) -> ScriptRecord
     if bytes.len() < 1 {
         return ScriptRecord::Cut;
     }
-    let rest = &bytes[1..];
-    let kind = bytes[0];
-    match kind {
-        1 => command_in(rest),
-        2 => key_in(rest),
-        3 => ScriptRecord::Call(ScriptCall::Tick),
-        _ => ScriptRecord::Wrong,
+    let kind = base::index_of(bytes[0]);
+    if is_unknown(kind) {
+        return ScriptRecord::Wrong;
     }
+    let length = length_of(kind);
+    if bytes.len() - 1 < length {
+        return ScriptRecord::Cut;
+    }
+    let end = 1 + length;
+    ScriptRecord::Call(call_of(kind, &bytes[1..end]))
 }

@@ -1,4 +1,5 @@
-// The player's operations for tests and measurements from another language: sessions go in and come back as C lays them out, so that any session can be handed over.
+// The player's operations for tests and measurements from another language: sessions go in and come back as C lays them
+// out, so that any session can be handed over.
 use machine::CallAnswer;
 use machine::Called;
 use machine::CountAnswer;
@@ -7,14 +8,15 @@ use machine::LoadAnswer;
 use machine::Loaded;
 use machine::ReadAnswer;
 use machine::Session;
-use records::refusals::number_of;
+use machine::number_of;
 ghost use mathlib.Core.List.{List};
 ghost use mathlib.Core.Path.{_≡_};
 ghost use Prim.Native.Nat.{ℕ};
 ghost use lib.ListN.{length};
 ghost use Rattle.machine.specs.Answers.{readAnswer, countsAnswer, countAnswer};
 ghost use Rattle.machine.specs.Load.{load};
-ghost use Rattle.machine.specs.Operations.{Call, call, read};
+ghost use Rattle.machine.specs.Operations.{command, call, read};
+ghost use Rattle.machine.specs.declared.Call.the-variants.{Key, Tick};
 ghost use Rattle.machine.specs.Counts.{checkCounts, giveCount};
 ghost use Rattle.document.specs.Loading.{loadResult};
 ghost use Rattle.player.specs.Promises.{callResult};
@@ -181,21 +183,22 @@ pub extern "C" fn probe_command(
     value: i32,
     log: &mut [u8],
 ) -> ReturnedSession
-    ensures { λ r. ⌜ callIn r (now (log .exit)) ≡ call s (Call.command action target value) (length (now (log .entry))) ⌝ }
+    ensures { λ r. ⌜ callIn r (now (log .exit))
+        ≡ call s (command action target value) (length (now (log .entry))) ⌝ }
 {
     returned_call(player::command(s, action, target, value, log))
 }
 
 #[no_mangle]
 pub extern "C" fn probe_key(s: Session, code: u8, log: &mut [u8]) -> ReturnedSession
-    ensures { λ r. ⌜ callIn r (now (log .exit)) ≡ call s (Call.key code) (length (now (log .entry))) ⌝ }
+    ensures { λ r. ⌜ callIn r (now (log .exit)) ≡ call s (Key code) (length (now (log .entry))) ⌝ }
 {
     returned_call(player::key(s, code, log))
 }
 
 #[no_mangle]
 pub extern "C" fn probe_tick(s: Session, log: &mut [u8]) -> ReturnedSession
-    ensures { λ r. ⌜ callIn r (now (log .exit)) ≡ call s Call.tick (length (now (log .entry))) ⌝ }
+    ensures { λ r. ⌜ callIn r (now (log .exit)) ≡ call s Tick (length (now (log .entry))) ⌝ }
 {
     returned_call(player::tick(s, log))
 }

@@ -4,7 +4,8 @@ use libc::STDOUT_FILENO;
 use machine::LoadAnswer;
 use machine::ReadAnswer;
 use machine::Session;
-use records::refusals::number_of;
+use machine::number_of;
+use machine::terms;
 
 fn print(text: &[u8]) {
     io::write_all(STDOUT_FILENO, text);
@@ -64,10 +65,10 @@ fn print_document(name: &[u8], document: &[u8]) {
             print(b"\n");
         }
     }
-    print_reading(session, 1, 0);
-    print_reading(session, 2, 0);
-    print_reading(session, 3, 0);
-    print_reading(session, 4, 0);
+    print_reading(session, terms::OF_NODE, 0);
+    print_reading(session, terms::OF_ANCHOR, 0);
+    print_reading(session, terms::OF_PROPERTY, 0);
+    print_reading(session, terms::OF_KEY, 0);
 }
 
 fn main() {

@@ -8,12 +8,13 @@ use lib.ListN.{getD}
 use borrow.Author.Tests.{eq-eqb, ne-eqb, eqb-false}
 use Rattle.base.specs.Tests.{if_then_else_, _=?_, by-test}
 use Rattle.machine.specs.declared.Rules.{Rules}
+use Rattle.machine.specs.Terms.{simpleRule}
 use Rattle.machine.specs.Tables.{ruleAt}
 use Rattle.machine.specs.Deciding.{compared, combined, decided, decide, ruleHolds}
 use Rattle.machine.specs.Sound.{SoundRules}
 
 module _ (rules : Rules) (values : List ℤ) where
-  pub simple : (id : ℕ) → ruleAt rules id .kind ≡ 4
+  pub simple : (id : ℕ) → ruleAt rules id .kind ≡ simpleRule
       → ruleHolds rules values id ≡ compared (ruleAt rules id .comparator) (getD values (ruleAt rules id .property) (pos 0)) (ruleAt rules id .value)
   unfolding decide decided if_then_else_
   simple id k = rw (eq-eqb _ _ k)
@@ -24,7 +25,7 @@ module _ (rules : Rules) (values : List ℤ) where
     steps-alike zero n id h l k = absurd (omega arith)
     steps-alike (suc m) zero id h l k = absurd (omega arith)
     steps-alike (suc m) (suc n) id h l k =
-        by-test (ruleAt rules id .kind =? 4) (λ e. rw e) λ e.
+        by-test (ruleAt rules id .kind =? simpleRule) (λ e. rw e) λ e.
         let below = s .left id h (eqb-false _ _ e) in
         let below2 = s .right id h (eqb-false _ _ e) in
         rw (
@@ -33,7 +34,7 @@ module _ (rules : Rules) (values : List ℤ) where
           steps-alike m n (ruleAt rules id .right) (omega arith) (omega arith) (omega arith),
         )
 
-    pub composite : (id : ℕ) → id < rules .count → (ruleAt rules id .kind ≡ 4 → ⊥)
+    pub composite : (id : ℕ) → id < rules .count → (ruleAt rules id .kind ≡ simpleRule → ⊥)
         → ruleHolds rules values id ≡ combined (ruleAt rules id .operator) (ruleHolds rules values (ruleAt rules id .left)) (ruleHolds rules values (ruleAt rules id .right))
     unfolding decide decided if_then_else_
     composite id h k =

@@ -7,6 +7,7 @@ use lib.IntN.{ℤ}
 use lib.ListN.{getD, length}
 use Rattle.base.specs.Tests.{if_then_else_}
 use Rattle.machine.specs.declared.Rules.{Rules}
+use Rattle.machine.specs.Terms.{simpleRule}
 use Rattle.machine.specs.Tables.{ruleAt}
 use Rattle.machine.specs.Deciding.{ruleHolds}
 
@@ -24,4 +25,4 @@ pub record Decided (rules : Rules) (values : List ℤ) (known : List ℕ) (id : 
   pub answer : holds ≡ ruleHolds rules values id
   pub remembered : Remembered rules values after
   pub kept : (i : ℕ) → (getD known i 0 ≡ 0 → ⊥) → getD after i 0 ≡ 0 → ⊥
-  pub noted : (ruleAt rules id .kind ≡ 4 → ⊥) → getD after id 0 ≡ 0 → ⊥
+  pub noted : (ruleAt rules id .kind ≡ simpleRule → ⊥) → getD after id 0 ≡ 0 → ⊥

@@ -1,9 +1,10 @@
 // Whether rules hold. A composite rule is decided by deciding its two earlier rules, each composite rule once.
 use base::index_of;
 use machine::Rules;
+use machine::terms;
 ghost use mathlib.Core.Path.{_≡_};
 ghost use Prim.Native.Nat.{_<_};
-ghost use Rattle.machine.specs.Terms.{noId};
+ghost use Rattle.machine.specs.Terms.{simpleRule, noId};
 ghost use Rattle.machine.specs.Tables.{ruleAt};
 ghost use Rattle.machine.specs.Deciding.{compared, combined, ruleHolds, guardHolds};
 ghost use Rattle.machine.specs.Sound.{SoundRules};
@@ -35,7 +36,7 @@ fn combine(operator: u8, x: bool, y: bool) -> bool
 
 // A simple rule.
 fn simple_rule_holds(rules: Rules, values: [i32; 32], id: usize) -> bool
-    requires { ⌜ (id < rules .count) × SoundRules 32 rules × (ruleAt rules id .kind ≡ 4) ⌝ }
+    requires { ⌜ (id < rules .count) × SoundRules 32 rules × (ruleAt rules id .kind ≡ simpleRule) ⌝ }
     ensures { λ r. ⌜ r ≡ ruleHolds rules values id ⌝ }
 {
     let properties = rules.properties;
@@ -69,7 +70,7 @@ fn decide(rules: Rules, values: [i32; 32], known: [u8; 32], id: usize) -> Decisi
     ensures { λ r. ⌜ Decided rules values known id (r .holds) (r .known) ⌝ }
 {
     let kinds = rules.kinds;
-    if kinds[id] == 4 {
+    if kinds[id] == terms::SIMPLE_RULE {
         let holds = simple_rule_holds(rules, values, id);
         return Decision {
             known: known,
@@ -110,12 +111,12 @@ pub fn rule_holds(rules: Rules, values: [i32; 32], id: usize) -> bool
     decision.holds
 }
 
-// Whether the guard holds; 255 is no guard.
+// Whether the guard holds, if there is one.
 pub fn guard_holds(rules: Rules, values: [i32; 32], guard: u8) -> bool
     requires { ⌜ ((guard ≡ noId → ⊥) → guard < rules .count) × SoundRules 32 rules ⌝ }
     ensures { λ r. ⌜ r ≡ guardHolds rules values guard ⌝ }
 {
-    if guard == 255 {
+    if guard == terms::NO_ID {
         return true;
     }
     let id = index_of(guard);

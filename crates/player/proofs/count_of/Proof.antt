@@ -8,7 +8,7 @@ use borrow.Author.Tests.{eq-eqb, ltb-true}
 use Rattle.base.specs.Tests.{if_then_else_, _<?_, both-pass, not-false}
 use Rattle.machine.specs.Counts.{showsCounts, withCount, giveCount}
 use Rattle.machine.proofs.Whole.{unbroken-sound}
-use Rattle.player.proofs.Conditions.{some-condition}
+use Rattle.machine.specs.Answers.{condition-numbered}
 use Rattle.player.proofs.count_of.Statement.{statement}
 use Rattle.player.proofs.count_of.Tie as tie
 
@@ -18,17 +18,12 @@ count-of-spec =
     tie.close
     (tie.spec
     (λ c κs. search needs)  -- is-broken-requires
-    (λ c.
-    let the-is-broken = c .before .is-broken in
-    let the-if1 = c .if1 in
-    rw (← the-is-broken .ensures, the-if1 .taken))  -- returns
+    (λ c. rw (← c .before .is-broken .ensures, c .if1 .taken))  -- returns
     (λ c κs. search needs)  -- both-given-requires
     (λ c.
     let the-is-broken = c .before .before .before .before .before .is-broken in
     let the-if1 = c .before .before .before .before .if1 in
-    let the-both-given = c .before .both-given in
-    let the-if2 = c .if2 in
-    rw (← the-is-broken .ensures, the-if1 .left, ← the-both-given .ensures, the-if2 .taken))  -- returns-2
+    rw (← the-is-broken .ensures, the-if1 .left, ← c .before .both-given .ensures, c .if2 .taken))  -- returns-2
     (λ c.
     let the-entry = c .before .before .before .before .before .before in
     let the-both-given = c .before .both-given in
@@ -67,5 +62,5 @@ count-of-spec =
     let the-if2 = c .before .before .before .before .before .if2 in
     let the-check = c .before .check in
     let the-first-failing = c .before .before .before .first-failing in
-    rw (← the-is-broken .ensures, the-if1 .left, ← the-both-given .ensures, not-false (the-both-given .result) (the-if2 .left), ← (rw (the-check .given .1) at (the-first-failing .ensures)), some-condition _))  -- returns-4
+    rw (← the-is-broken .ensures, the-if1 .left, ← the-both-given .ensures, not-false (the-both-given .result) (the-if2 .left), ← (rw (the-check .given .1) at (the-first-failing .ensures)), condition-numbered _))  -- returns-4
     )

@@ -1,6 +1,6 @@
 -- `player::refuse` meets its contract. Assumes nothing.
 use Rattle.machine.specs.Operations.{callRefused}
-use Rattle.events.specs.LogSlice.{logOf-none}
+use Rattle.events.specs.LogSlice.{lines-none}
 use borrow.Author.Needs.{needs}
 use Rattle.player.proofs.refuse.Statement.{statement}
 use Rattle.player.proofs.refuse.Tie as tie
@@ -12,7 +12,5 @@ refuse-spec =
     (tie.spec
     (λ c κs. search needs)  -- clear-requires
     (λ c. search needs)  -- same-length
-    (λ c.
-    let the-clear = c .before .before .clear in
-    rw (the-clear .ensures, logOf-none))  -- returns
+    (λ c. rw (c .before .before .clear .ensures, lines-none))  -- returns
     )

@@ -1,16 +1,17 @@
 -- `printed_run::run_part` meets its contract. Assumes nothing.
 use native.Mathlib.Omega.{arith}
-use Prim.Native.Nat.{_+_, _*_, _≤_, _-_}
+use Prim.Native.Nat.{_+_, _*_, _<_, _≤_, _-_}
 use mathlib.Core.Path.{_≡_, refl, sym, _∙_}
 use lib.ListN.{length, length-set}
 use lib.Seq.{length-take-le}
+use Rattle.machine.specs.PrintedRun.{longestRecord}
 use Rattle.printing.proofs.ScriptRecords.{cut-most}
 use borrow.Author.Needs.{needs}
 use Rattle.printed_run.proofs.run_part.Statement.{statement}
 use Rattle.printed_run.proofs.run_part.Tie as tie
 
 abbrev Inv-loop : tie.InvT-loop
-Inv-loop bytes log₀ out₀ called₀ record₀ size₀ lines₀ next₀ log out called «record» size lines next = (next ≤ length bytes) × (length «record» ≡ 7) × (size ≤ 6) × (length log ≡ length log₀) × (length out ≡ length out₀) × (lines .filled + (50 + 3 * length log₀) ≤ length out₀)
+Inv-loop bytes log₀ out₀ called₀ record₀ size₀ lines₀ next₀ log out called «record» size lines next = (next ≤ length bytes) × (length «record» ≡ longestRecord) × (size < longestRecord) × (length log ≡ length log₀) × (length out ≡ length out₀) × (lines .filled + (50 + 3 * length log₀) ≤ length out₀)
 
 abbrev μ-loop : tie.MeasureT-loop
 μ-loop bytes log₀ out₀ called₀ record₀ size₀ lines₀ next₀ log out called «record» size lines next = length bytes - next
@@ -31,15 +32,15 @@ run-part-spec =
     (λ c. sym (length-take-le _ _ (simp length-set (omega arith))))  -- slice-aggregate-record-in
     (λ c κs. search needs)  -- record-in-requires
     (λ c. search needs)  -- enum-known-call
-    (λ c κs. search needs)  -- perform-requires
+    (λ c κs. search needs)  -- call-requires
     (λ c κs. search needs)  -- add-line-requires
     (λ c. search needs)  -- loop-less
     (λ c.
     let the-loop-test = c .before .before .before .before .before .before .before .before .before .before .before .before .before .before .before .before .loop-test in
     let the-loop = c .before .before .before .before .before .before .before .before .before .before .before .before .before .before .before .before .before .loop in
-    let the-perform = c .before .before .before .before .before .before .before .perform in
+    let the-call = c .before .before .before .before .before .before .before .call2 in
     let the-add-line = c .before .before .add-line in
-    (omega (arith, the-loop-test .taken), simp length-set (the-loop .inv .1), omega arith, the-perform .kept .1 .1 .0 ∙ the-loop .inv .3, the-add-line .kept .1 .1 .1 .0 ∙ the-loop .inv .4, omega (arith, the-add-line .ensures, the-perform .kept .1 .1 .0, the-loop .inv)))  -- loop-again
+    (omega (arith, the-loop-test .taken), simp length-set (the-loop .inv .1), omega arith, the-call .kept .1 .1 .0 ∙ the-loop .inv .3, the-add-line .kept .1 .1 .1 .0 ∙ the-loop .inv .4, omega (arith, the-add-line .ensures, the-call .kept .1 .1 .0, the-loop .inv)))  -- loop-again
     (λ c. search needs)  -- enum-told
     (λ c. search needs)  -- loop-less-2
     (λ c.

@@ -1,7 +1,9 @@
 -- `printing::script::record_in` meets its contract. Assumes nothing.
-use mathlib.Core.Path.{sym}
+use mathlib.Core.Path.{_≡_, sym, _∙_}
+use Prim.Native.Nat.{_+_, _-_}
+use native.Mathlib.Omega.{arith}
 use borrow.Author.Needs.{needs}
-use Rattle.printing.proofs.ScriptRecords.{record-none, record-cons, record-tick, record-wrong}
+use Rattle.printing.proofs.ScriptRecords.{record-none, record-wrong, record-cut, record-whole}
 use Rattle.printing.proofs.script.record_in.Statement.{statement}
 use Rattle.printing.proofs.script.record_in.Tie as tie
 
@@ -9,31 +11,36 @@ pub record-in-spec : {M : Type 1} → statement M
 record-in-spec =
     tie.close
     (tie.spec
-    (λ c.
-    let the-if1 = c .if1 in
-    record-none _ (the-if1 .taken))  -- returns
-    (λ c. search needs)  -- sub-rest
-    (λ c. search needs)  -- part-rest-start
-    (λ c. search needs)  -- part-rest-end
-    (λ c. search needs)  -- shared-slice-read-kind
-    (λ c κs. search needs)  -- command-in-requires
-    (λ c κs. search needs)  -- key-in-requires
+    (λ c. record-none _ (c .if1 .taken))  -- returns
+    (λ c. search needs)  -- shared-slice-read-index-of
+    (λ c κs. search needs)  -- index-of-requires
+    (λ c κs. search needs)  -- is-unknown-requires
     (λ c.
     let the-if1 = c .before .before .before .before .if1 in
-    let the-match = c .before .match in
-    let the-command-in = c .command-in in
-    rw (record-cons _ (the-if1 .left), the-match .keys1) (the-command-in .ensures))  -- returns-2
+    record-wrong _ (the-if1 .left) _ (c .before .before .index-of .ensures .0) (sym (c .before .is-unknown .ensures) ∙ c .if2 .taken))  -- returns-2
+    (λ c κs. search needs)  -- length-of-requires
+    (λ c. search needs)  -- sub-if3
     (λ c.
-    let the-if1 = c .before .before .before .before .if1 in
-    let the-match = c .before .match in
-    let the-key-in = c .key-in in
-    rw (record-cons _ (the-if1 .left), the-match .keys2) (the-key-in .ensures))  -- returns-3
+    let the-if1 = c .before .before .before .before .before .before .if1 in
+    let the-index-of = c .before .before .before .before .index-of in
+    let the-is-unknown = c .before .before .before .is-unknown in
+    let the-if2 = c .before .before .if2 in
+    let the-length-of = c .before .length-of in
+    let the-if3 = c .if3 in
+    record-cut _ (the-if1 .left) _ (the-index-of .ensures .0) (sym (the-is-unknown .ensures) ∙ the-if2 .left) (rw (the-length-of .ensures) at (the-if3 .taken)))  -- returns-3
+    (λ c. search needs)  -- add-end
+    (λ c. search needs)  -- sub-call-of
+    (λ c. search needs)  -- part-call-of-start
+    (λ c. search needs)  -- part-call-of-end
+    (λ c κs. search needs)  -- call-of-requires
     (λ c.
-    let the-if1 = c .before .before .before .if1 in
-    let the-match = c .match in
-    rw (record-cons _ (the-if1 .left), the-match .keys3) (sym (record-tick _)))  -- returns-4
-    (λ c.
-    let the-if1 = c .before .before .before .if1 in
-    let the-match = c .match in
-    rw (record-cons _ (the-if1 .left)) (sym (record-wrong _ _ (the-match .rest .0 .0 .1) (the-match .rest .0 .1) (the-match .rest .1))))  -- returns-5
+    let the-length-of = c .before .before .before .length-of in
+    let the-call-of = c .call-of in
+    let the-if1 = c .before .before .before .before .before .before .before .before .if1 in
+    let the-index-of = c .before .before .before .before .before .before .index-of in
+    let the-is-unknown = c .before .before .before .before .before .is-unknown in
+    let the-if2 = c .before .before .before .before .if2 in
+    let the-if3 = c .before .before .if3 in
+    let n : 1 + the-length-of .result - 1 ≡ the-length-of .result = omega arith in
+    rw (the-call-of .ensures, n, the-length-of .ensures) (record-whole _ (the-if1 .left) _ (the-index-of .ensures .0) (sym (the-is-unknown .ensures) ∙ the-if2 .left) (rw (the-length-of .ensures) at (the-if3 .left))))  -- returns-4
     )

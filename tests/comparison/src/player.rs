@@ -98,14 +98,26 @@ tables! {
         actions: Actions,
     }
 
+    struct NodeEvents {
+        states: [u8; MOST_NODES],
+        clocks: [u16; MOST_NODES],
+        counts: [u32; MOST_NODES],
+    }
+
+    struct AnchorEvents {
+        states: [u8; MOST_ANCHORS],
+        counts: [u32; MOST_ANCHORS],
+    }
+
+    struct PropertyEvents {
+        values: [i32; MOST_PROPERTIES],
+        counts: [u32; MOST_PROPERTIES],
+    }
+
     struct State {
-        node_state: [u8; MOST_NODES],
-        node_clock: [u16; MOST_NODES],
-        node_count: [u32; MOST_NODES],
-        anchor_state: [u8; MOST_ANCHORS],
-        anchor_count: [u32; MOST_ANCHORS],
-        property_value: [i32; MOST_PROPERTIES],
-        property_count: [u32; MOST_PROPERTIES],
+        nodes: NodeEvents,
+        anchors: AnchorEvents,
+        properties: PropertyEvents,
     }
 
     struct Session {

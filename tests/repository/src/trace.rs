@@ -97,11 +97,10 @@ fn is_proved_by_itself(name: &str, function: &str, sources: &Sources) -> bool {
 }
 
 /// No contract speaks of these: names of numbers, examples, lists of calls, the program's files.
-const NOT_PROMISED: [&str; 7] = [
+const NOT_PROMISED: [&str; 6] = [
     "Terms.",
     "Examples.",
     "Demand3.",
-    "Operations.Call",
     "Operations.sessionAfter",
     "PrintedRun.printedRun",
     "PrintedRun.printedScript",

@@ -85,7 +85,7 @@ fn a_proof_that_is_not_there_is_found() {
         "player: load",
         "events: changes",
         "events: None.antt",
-        "player: `tick` by itself",
+        "player: `call` by itself",
     ] {
         assert_eq!(missing_proofs(cell, "", &sources).len(), 1, "{cell}");
     }

@@ -1,9 +1,9 @@
 // The chain of links: the lines of the log are taken in order, those too that are written meanwhile, and links fire on them.
 use events::Work;
-use events::log::emit;
-use events::log::goes_on;
-use events::log::line_at;
-use events::log::meet;
+use log::emit;
+use log::goes_on;
+use log::line_at;
+use log::meet;
 use machine::ActionRecord;
 use machine::Document;
 use machine::Line;

@@ -1,11 +1,11 @@
 -- What the proofs of this crate bring in, by one line.
 pub use mathlib.Core.Path.{_≡_, refl, sym, ap, _∙_}
-pub use Prim.Native.Nat.{ℕ, _≤_, _<_, _+_, _*_, _-_}
+pub use Prim.Native.Nat.{ℕ, _≤_, _<_, _+_, _-_}
 pub use native.Mathlib.Omega.{arith}
-pub use lib.ListN.{length, length-set}
+pub use lib.ListN.{length}
 pub use borrow.Author.Needs.{needs}
-pub use borrow.Author.Tests.{lt-ltb, le-ltb, le-leb, lt-leb, eq-eqb, ne-eqb}
+pub use borrow.Author.Tests.{lt-ltb, le-ltb, eq-eqb, ne-eqb}
 unfoldable pub use Rattle.base.specs.Tests.{if_then_else_}
-unfoldable pub use Rattle.base.specs.Loops.{ascending, descending, first}
-pub use Rattle.base.specs.Loops.{ascending-none, ascending-more, ascending-done, descending-more, descending-done, first-none, first-skip, first-hit, first-end}
+unfoldable pub use Rattle.base.specs.Loops.{ascending, descending}
+pub use Rattle.base.specs.Loops.{ascending-none, ascending-more, ascending-done, descending-more, descending-done}
 pub use Rattle.events.specs.Running.{run}

@@ -17,7 +17,8 @@ use Rattle.machine.specs.Tick.{withClock, anchorsPassed, passed, tickedOne}
 use Rattle.machine.specs.declared.Anchors.{Anchors}
 use Rattle.machine.specs.declared.Document.{Document}
 use Rattle.machine.proofs.Keep.{chosen}
-use Rattle.events.specs.Parts.{dueNext, advancing}
+use Rattle.transitions.specs.Moves.{dueNext}
+use Rattle.events.specs.Parts.{advancing}
 
 pub low-clock : (type state clock : ℕ) → advancing type state clock ≡ true → clock < 65_535
 unfolding advancing

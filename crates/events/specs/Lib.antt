@@ -1,4 +1,3 @@
-pub mod LogSlice
 pub mod Running
 pub mod Parts
-pub mod Choosing
+pub mod Below

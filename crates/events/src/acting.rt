@@ -1,17 +1,30 @@
 // An action, and the settling that follows it.
 use super::Work;
-use super::changes::set_property;
 use super::media::move_all;
+use super::media::move_each;
+use super::properties::set_property;
 use super::settling::settle;
-use super::starting::start_node;
 use base::index_of;
 use machine::ActionRecord;
 use machine::Document;
 use machine::terms;
+use starting::media_of_start;
 ghost use mathlib.Core.Path.{_≡_};
-ghost use Rattle.machine.specs.Events.{performed, acted};
+ghost use Prim.Native.Nat.{_<_};
+ghost use Rattle.machine.specs.Events.{started, performed, acted};
 ghost use Rattle.machine.specs.Sound.{Applicable, Sound};
 ghost use Rattle.events.specs.Running.{run};
+
+// Start of node n: of the media that it reaches, one after the other.
+fn start_node(d: Document, w: Work, log: &mut [u8], n: usize) -> Work
+    requires { ⌜ Sound d × (n < d .nodes .count) ⌝ }
+    ensures { λ r. ⌜ run r (now (log .exit)) ≡ started d 64 n (run w (now (log .entry))) ⌝ }
+{
+    let states = w.node_states;
+    let values = w.property_values;
+    let queue = media_of_start(d, states, values, n);
+    move_each(d.anchors, w, log, terms::TO_START, queue)
+}
 
 fn perform(d: Document, w: Work, log: &mut [u8], a: ActionRecord) -> Work
     requires { ⌜ Sound d × Applicable d a ⌝ }

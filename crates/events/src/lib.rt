@@ -2,13 +2,9 @@
 // tick's own part. Each function changes the working record of a call and writes its lines to the log slice; it states the
 // whole of what it does by a definition of `machine`.
 pub mod acting;
-mod anchors;
-mod changes;
-mod choosing;
-pub mod log;
 mod media;
+mod properties;
 mod settling;
-mod starting;
 pub mod ticking;
 
 use log::Written;

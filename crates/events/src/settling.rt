@@ -1,10 +1,10 @@
 // Settling: every composite takes the state that its children give it.
 use super::Work;
-use super::changes::node_to;
 use super::media::is_below;
 use base::index_of;
 use machine::Nodes;
 use machine::terms;
+use transitions::node::node_to;
 ghost use mathlib.Core.Path.{_≡_};
 ghost use Prim.Native.Nat.{_<_};
 ghost use Rattle.machine.specs.Events.{abortsAt, settled};
@@ -54,18 +54,35 @@ pub fn settle(nodes: Nodes, w: Work, log: &mut [u8], action: u8, target: usize) 
     requires { ⌜ SoundNodes nodes ⌝ }
     ensures { λ r. ⌜ run r (now (log .exit)) ≡ settled nodes action target (run w (now (log .entry))) ⌝ }
 {
-    let mut t = w;
+    let mut states = w.node_states;
+    let mut clocks = w.node_clocks;
+    let mut counts = w.node_counts;
+    let mut written = w.written;
     let mut gathered: [u8; 256] = [terms::SLEEPING; 256];
     let mut n = nodes.count;
     while 0 < n {
         n -= 1;
-        if resettles(nodes.types[n], t.node_states[n], gathered[n]) {
+        if resettles(nodes.types[n], states[n], gathered[n]) {
             let aborting = aborts_at(nodes, action, target, n);
-            t = node_to(t, &mut *log, aborting, n, gathered[n]);
+            written = node_to(
+                &mut states,
+                &mut clocks,
+                &mut counts,
+                &mut *log,
+                written,
+                aborting,
+                n,
+                gathered[n],
+            );
         }
         let parent = index_of(nodes.parents[n]);
-        let state = with_child(gathered[parent], t.node_states[n]);
+        let state = with_child(gathered[parent], states[n]);
         gathered[parent] = state;
     }
+    let mut t = w;
+    t.node_states = states;
+    t.node_clocks = clocks;
+    t.node_counts = counts;
+    t.written = written;
     t
 }

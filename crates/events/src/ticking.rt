@@ -1,13 +1,13 @@
 // The tick's own part, every media that occurs and one settling; and a key.
 use super::Work;
-use super::anchors::Moving;
-use super::anchors::due_media;
-use super::anchors::move_anchors;
-use super::log::emit;
-use super::media::move_media;
 use super::settling::settle;
+use log::emit;
 use machine::Document;
 use machine::terms;
+use transitions::anchors::Moving;
+use transitions::anchors::due_media;
+use transitions::anchors::move_anchors;
+use transitions::media::move_media;
 ghost use mathlib.Core.Path.{_≡_};
 ghost use Rattle.base.specs.Loops.{ascending};
 ghost use Rattle.machine.specs.Tick.{tickedOne, ticked, keyed};
@@ -34,36 +34,86 @@ fn advance_all(d: Document, w: Work, log: &mut [u8]) -> Work
     ensures { λ r. ⌜ run r (now (log .exit))
         ≡ ascending (tickedOne d) (d .nodes .count) (run w (now (log .entry))) ⌝ }
 {
-    let mut t = w;
     let nodes = d.nodes;
-    let anchors = d.anchors;
-    let clocks = w.node_clocks;
-    let media = anchors.media;
-    let ends = anchors.ends;
-    let ending = due_media(anchors.count, media, ends, clocks);
-    let begins = anchors.begins;
-    let beginning = due_media(anchors.count, media, begins, clocks);
+    let mut states = w.node_states;
+    let mut clocks = w.node_clocks;
+    let mut counts = w.node_counts;
+    let mut anchor_states = w.anchor_states;
+    let mut anchor_counts = w.anchor_counts;
+    let mut written = w.written;
+    let ending = due_media(d.anchors.count, &d.anchors.media, &d.anchors.ends, &clocks);
+    let beginning = due_media(
+        d.anchors.count,
+        &d.anchors.media,
+        &d.anchors.begins,
+        &clocks,
+    );
     let end = nodes.count;
     let mut n = 0;
     while n < end {
-        let clock = t.node_clocks[n];
-        if advances(nodes.types[n], t.node_states[n], clock) {
+        let clock = clocks[n];
+        if advances(nodes.types[n], states[n], clock) {
             let now = clock + 1;
-            t.node_clocks[n] = now;
+            clocks[n] = now;
             if ending[n] {
-                let moving = Moving::EndingAt(now);
-                t = move_anchors(d.anchors, t, &mut *log, moving, false, n, terms::SLEEPING);
+                written = move_anchors(
+                    d.anchors.count,
+                    &d.anchors.media,
+                    &d.anchors.begins,
+                    &d.anchors.ends,
+                    &mut anchor_states,
+                    &mut anchor_counts,
+                    &mut *log,
+                    written,
+                    Moving::EndingAt(now),
+                    false,
+                    n,
+                    terms::SLEEPING,
+                );
             }
             if beginning[n] {
-                let moving = Moving::BeginningAt(now);
-                t = move_anchors(d.anchors, t, &mut *log, moving, false, n, terms::OCCURRING);
+                written = move_anchors(
+                    d.anchors.count,
+                    &d.anchors.media,
+                    &d.anchors.begins,
+                    &d.anchors.ends,
+                    &mut anchor_states,
+                    &mut anchor_counts,
+                    &mut *log,
+                    written,
+                    Moving::BeginningAt(now),
+                    false,
+                    n,
+                    terms::OCCURRING,
+                );
             }
             if nodes.durations[n] == now {
-                t = move_media(d.anchors, t, &mut *log, terms::TO_STOP, n);
+                written = move_media(
+                    d.anchors.count,
+                    &d.anchors.media,
+                    &d.anchors.begins,
+                    &d.anchors.ends,
+                    &mut states,
+                    &mut clocks,
+                    &mut counts,
+                    &mut anchor_states,
+                    &mut anchor_counts,
+                    &mut *log,
+                    written,
+                    terms::TO_STOP,
+                    n,
+                );
             }
         }
         n += 1;
     }
+    let mut t = w;
+    t.node_states = states;
+    t.node_clocks = clocks;
+    t.node_counts = counts;
+    t.anchor_states = anchor_states;
+    t.anchor_counts = anchor_counts;
+    t.written = written;
     t
 }
 

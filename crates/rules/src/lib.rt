@@ -4,11 +4,12 @@ use machine::Rules;
 use machine::terms;
 ghost use mathlib.Core.Path.{_≡_};
 ghost use Prim.Native.Nat.{_<_};
-ghost use Rattle.machine.specs.Terms.{simpleRule, noId};
-ghost use Rattle.machine.specs.Tables.{ruleAt};
+ghost use lib.IntN.{pos};
+ghost use lib.ListN.{getD, length};
+ghost use Rattle.machine.specs.Terms.{noId};
 ghost use Rattle.machine.specs.Deciding.{compared, combined, ruleHolds, guardHolds};
 ghost use Rattle.machine.specs.Sound.{SoundRules};
-ghost use Rattle.rules.specs.Memo.{markOf, Remembered, Decided};
+ghost use Rattle.rules.specs.Memo.{markOf, Known, Earlier, Decided};
 
 // Comparators: 0 equal, 1 not equal, 2 less, 3 greater, 4 less or equal, 5 greater or equal.
 fn compare(comparator: u8, x: i32, y: i32) -> bool
@@ -34,24 +35,23 @@ fn combine(operator: u8, x: bool, y: bool) -> bool
     x | y
 }
 
-// A simple rule.
-fn simple_rule_holds(rules: Rules, values: [i32; 32], id: usize) -> bool
-    requires { ⌜ (id < rules .count) × SoundRules 32 rules × (ruleAt rules id .kind ≡ simpleRule) ⌝ }
-    ensures { λ r. ⌜ r ≡ ruleHolds rules values id ⌝ }
+// Whether a simple rule holds: the property's value stands on the left.
+fn simple_rule_holds<'a>(
+    properties: &'a [u8; 32],
+    comparators: &'a [u8; 32],
+    constants: &'a [i32; 32],
+    values: &[i32; 32],
+    id: usize,
+) -> bool
+    requires { ⌜ (id < 32) × (getD (now properties) id 0 < 32) ⌝ }
+    ensures { λ r. ⌜ r ≡ compared (getD (now (comparators .entry)) id 0)
+        (getD (now (values .entry)) (getD (now (properties .entry)) id 0) (pos 0))
+        (getD (now (constants .entry)) id (pos 0)) ⌝ }
 {
-    let properties = rules.properties;
     let property = index_of(properties[id]);
     let x = values[property];
-    let constants = rules.values;
     let y = constants[id];
-    let comparators = rules.comparators;
     compare(comparators[id], x, y)
-}
-
-// What is known of the composite rules, by id: 0 not decided yet, 1 does not hold, 2 holds; and whether the rule just decided holds.
-struct Decision {
-    known: [u8; 32],
-    holds: bool,
 }
 
 fn mark_of(holds: bool) -> u8
@@ -63,42 +63,54 @@ fn mark_of(holds: bool) -> u8
     1
 }
 
-// A rule, and what is known once it is decided. Each column is taken out before an entry is read: a table that is read
-// itself is copied once more for every call that it is handed to.
-fn decide(rules: Rules, values: [i32; 32], known: [u8; 32], id: usize) -> Decision
-    requires { ⌜ (id < rules .count) × SoundRules 32 rules × Remembered rules values known ⌝ }
-    ensures { λ r. ⌜ Decided rules values known id (r .holds) (r .known) ⌝ }
+// What is known of the rules, by id, once the simple ones are decided: 0 not decided yet, 1 does not hold, 2 holds.
+pub fn simple_marks(rules: Rules, values: [i32; 32]) -> [u8; 32]
+    requires { ⌜ SoundRules 32 rules ⌝ }
+    ensures { λ r. ⌜ Known rules values (rules .count) r ⌝ }
 {
-    let kinds = rules.kinds;
-    if kinds[id] == terms::SIMPLE_RULE {
-        let holds = simple_rule_holds(rules, values, id);
-        return Decision {
-            known: known,
-            holds: holds,
-        };
+    let mut known = [0u8; 32];
+    let end = rules.count;
+    let mut next = 0;
+    while next < end {
+        let id = next;
+        next += 1;
+        if rules.kinds[id] == terms::SIMPLE_RULE {
+            let holds = simple_rule_holds(
+                &rules.properties,
+                &rules.comparators,
+                &rules.values,
+                &values,
+                id,
+            );
+            known[id] = mark_of(holds);
+        }
     }
+    known
+}
+
+// Whether a rule holds; each rule without a mark that is decided for it is marked.
+pub fn decide<'a>(
+    operators: &'a [u8; 32],
+    lefts: &'a [u8; 32],
+    rights: &'a [u8; 32],
+    known: &mut [u8; 32],
+    id: usize,
+) -> bool
+    requires { ⌜ (id < 32) × (length (now known) ≡ 32) × Earlier (now lefts) (now rights) (now known) id ⌝ }
+    ensures { λ r. ⌜ Decided (now (operators .entry)) (now (lefts .entry)) (now (rights .entry))
+        (now (known .entry)) id r (now (known .exit)) ⌝ }
+{
     let mark = known[id];
     if mark != 0 {
-        return Decision {
-            known: known,
-            holds: mark == 2,
-        };
+        return mark == 2;
     }
-    let lefts = rules.lefts;
     let left = index_of(lefts[id]);
-    let first = decide(rules, values, known, left);
-    let first_known = first.known;
-    let rights = rules.rights;
+    let first = decide(operators, lefts, rights, &mut *known, left);
     let right = index_of(rights[id]);
-    let second = decide(rules, values, first_known, right);
-    let operators = rules.operators;
-    let holds = combine(operators[id], first.holds, second.holds);
-    let mut all_known = second.known;
-    all_known[id] = mark_of(holds);
-    Decision {
-        known: all_known,
-        holds: holds,
-    }
+    let second = decide(operators, lefts, rights, &mut *known, right);
+    let holds = combine(operators[id], first, second);
+    known[id] = mark_of(holds);
+    holds
 }
 
 // Whether the rule holds on the values of the properties.
@@ -106,9 +118,23 @@ pub fn rule_holds(rules: Rules, values: [i32; 32], id: usize) -> bool
     requires { ⌜ (id < rules .count) × SoundRules 32 rules ⌝ }
     ensures { λ r. ⌜ r ≡ ruleHolds rules values id ⌝ }
 {
-    let known = [0; 32];
-    let decision = decide(rules, values, known, id);
-    decision.holds
+    if rules.kinds[id] == terms::SIMPLE_RULE {
+        return simple_rule_holds(
+            &rules.properties,
+            &rules.comparators,
+            &rules.values,
+            &values,
+            id,
+        );
+    }
+    let mut known = simple_marks(rules, values);
+    decide(
+        &rules.operators,
+        &rules.lefts,
+        &rules.rights,
+        &mut known,
+        id,
+    )
 }
 
 // Whether the guard holds, if there is one.

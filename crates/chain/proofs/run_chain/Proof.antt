@@ -9,7 +9,7 @@ use Rattle.base.specs.Tests.{not-true, not-false}
 use Rattle.base.specs.Loops.{ascending, ascending-none, ascending-more, ascending-done}
 use Rattle.machine.specs.Chain.{goesOn, linkTried, lineTaken, linesTaken, chained}
 use Rattle.events.specs.Running.{run}
-use Rattle.events.specs.LogSlice.{lines-have, lines-lack}
+use Rattle.log.specs.LogSlice.{lines-have, lines-lack}
 use Rattle.chain.proofs.ChainLaws.{heard, not-heard, chain-more, chain-stopped, chain-ended, chain-done}
 use Rattle.chain.proofs.run_chain.Statement.{statement}
 use Rattle.chain.proofs.run_chain.Tie as tie

@@ -1,0 +1,8 @@
+-- What the proofs of this crate bring in, by one line.
+pub use mathlib.Core.Path.{_≡_, refl}
+pub use Prim.Native.Nat.{ℕ, _≤_, _<_, _+_, _-_}
+pub use native.Mathlib.Omega.{arith}
+pub use lib.ListN.{length}
+pub use borrow.Author.Needs.{needs}
+pub use borrow.Author.Tests.{eq-eqb, ne-eqb}
+unfoldable pub use Rattle.base.specs.Tests.{if_then_else_}

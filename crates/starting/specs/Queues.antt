@@ -1,0 +1,29 @@
+-- A queue of media, and when it is that of a start.
+use Prim.Native.Nat.{ℕ, _≤_, _<_}
+use mathlib.Core.List.{List}
+use mathlib.Core.Path.{_≡_}
+use lib.IntN.{ℤ}
+use lib.ListN.{getD}
+use Rattle.base.specs.Loops.{ascending}
+use Rattle.machine.specs.Terms.{toStart}
+use Rattle.machine.specs.Events.{Run, mediaMoved, started}
+use Rattle.machine.specs.declared.Anchors.{Anchors}
+use Rattle.machine.specs.declared.Document.{Document}
+use Rattle.starting.specs.declared.Queue.{Queue}
+
+abbrev pub queueOf : List ℕ → ℕ → Queue
+queueOf media count = record { media = media; count = count }
+
+-- there is place for its media, and they are nodes
+pub record Places (q : Queue) : Type 0 where
+  pub few : q .count ≤ 64
+  pub ids : (i : ℕ) → i < q .count → getD (q .media) i 0 < 64
+
+-- an action on its media, one after the other
+unfoldable pub queueMoved : Anchors → ℕ → Queue → Run → Run
+queueMoved anchors action q r = ascending (λ (i : ℕ). mediaMoved anchors action (getD (q .media) i 0)) (q .count) r
+
+-- from every run with these states and values the start of node n is that of the queue's media
+pub record MediaOfStart (d : Document) (states : List ℕ) (values : List ℤ) (n : ℕ) (q : Queue) : Type 0 where
+  pub places : Places q
+  pub run : (r : Run) → r .state .nodes .states ≡ states → r .state .properties .values ≡ values → started d 64 n r ≡ queueMoved (d .anchors) toStart q r

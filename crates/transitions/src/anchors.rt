@@ -1,0 +1,137 @@
+// The anchors of a media.
+use super::node::count_after;
+use super::node::transition_of;
+use base::index_of;
+use log::Written;
+use log::emit;
+use machine::terms;
+ghost use mathlib.Core.Path.{_≡_};
+ghost use mathlib.Core.Bool.{_&&_};
+ghost use Prim.Native.Nat.{ℕ, _+_, _<_, _≤_};
+ghost use lib.ListN.{getD};
+ghost use Rattle.base.specs.Tests.{if_then_else_, _=?_};
+ghost use Rattle.base.specs.Marks.{Marked};
+ghost use Rattle.machine.specs.Terms.{noTransition};
+ghost use Rattle.machine.specs.Events.{transition, anchorsMoved};
+ghost use Rattle.machine.specs.declared.NodeEvents.{NodeEvents};
+ghost use Rattle.log.specs.LogSlice.{logOf};
+ghost use Rattle.transitions.specs.Lent.{Rest, runWith, anchorEvents, anchorsOf};
+ghost use Rattle.transitions.specs.Moves.{moves, dueNext};
+
+// Which anchors of a media move: those that begin at a clock, those awake that end at it, those awake.
+pub enum Moving {
+    BeginningAt(u16),
+    EndingAt(u16),
+    Awake,
+}
+
+// Whether an anchor moves.
+fn moves(moving: Moving, begin: u16, end: u16, state: u8) -> bool
+    ensures { λ r. ⌜ r ≡ moves moving begin end state ⌝ }
+{
+    match moving {
+        Moving::BeginningAt(clock) => begin == clock,
+        Moving::EndingAt(clock) => (state != terms::SLEEPING) & (end == clock),
+        Moving::Awake => state != terms::SLEEPING,
+    }
+}
+
+// The transition of an anchor of a media to the new state; none if it is not one of media n that move.
+fn anchor_transition(
+    moving: Moving,
+    aborting: bool,
+    n: usize,
+    media: u8,
+    begin: u16,
+    end: u16,
+    state: u8,
+    new: u8,
+) -> u8
+    ensures { λ r. ⌜ r ≡ (if media =? n && moves moving begin end state
+        then transition aborting state new else noTransition) ⌝ }
+{
+    if index_of(media) != n {
+        return terms::NO_TRANSITION;
+    }
+    if moves(moving, begin, end, state) {
+        return transition_of(aborting, state, new);
+    }
+    terms::NO_TRANSITION
+}
+
+// The anchors of media n that move go to the state, in id order; of so many anchors, with these media, begins and ends.
+pub fn move_anchors<'a>(
+    anchors: usize,
+    media: &'a [u8; 128],
+    begins: &'a [u16; 128],
+    ends: &'a [u16; 128],
+    states: &mut [u8; 128],
+    counts: &mut [u32; 128],
+    log: &mut [u8],
+    written: Written,
+    moving: Moving,
+    aborting: bool,
+    n: usize,
+    state: u8,
+) -> Written
+    requires { ⌜ anchors ≤ 128 ⌝ }
+    ensures { λ w. ⌜ ((nodes : NodeEvents) (rest : Rest)
+        → runWith nodes (anchorEvents (now (states .exit)) (now (counts .exit))) rest (logOf w (now (log .exit)))
+        ≡ anchorsMoved (anchorsOf anchors (now (media .entry)) (now (begins .entry)) (now (ends .entry)))
+        (moves moving) aborting n state
+        (runWith nodes (anchorEvents (now (states .entry)) (now (counts .entry))) rest
+        (logOf written (now (log .entry))))) ⌝ }
+{
+    let mut t = written;
+    let mut next = 0;
+    while next < anchors {
+        let a = next;
+        next += 1;
+        let change = anchor_transition(
+            moving,
+            aborting,
+            n,
+            media[a],
+            begins[a],
+            ends[a],
+            states[a],
+            state,
+        );
+        if change != terms::NO_TRANSITION {
+            states[a] = state;
+            let count = count_after(change, counts[a]);
+            counts[a] = count;
+            t = emit(&mut *log, t, terms::OF_ANCHOR, a as u8, change);
+        }
+    }
+    t
+}
+
+// Whether the time comes with the clock after this one.
+fn is_next(time: u16, clock: u16) -> bool
+    ensures { λ r. ⌜ r ≡ time =? clock + 1 ⌝ }
+{
+    time as u32 == clock as u32 + 1
+}
+
+// The media that have an anchor whose time comes with their next clock: of so many anchors, with these media and times.
+pub fn due_media<'a>(
+    anchors: usize,
+    media: &'a [u8; 128],
+    times: &'a [u16; 128],
+    clocks: &[u16; 64],
+) -> [bool; 256]
+    requires { ⌜ (anchors ≤ 128) × ((a : ℕ) → a < anchors → getD (now media) a 0 < 64) ⌝ }
+    ensures { λ r. ⌜ Marked (dueNext (now (media .entry)) (now (times .entry)) (now (clocks .entry))) anchors r ⌝ }
+{
+    let mut marks: [bool; 256] = [false; 256];
+    let mut next = 0;
+    while next < anchors {
+        let a = next;
+        next += 1;
+        let n = index_of(media[a]);
+        let is_due = is_next(times[a], clocks[n]);
+        marks[n] = marks[n] | is_due;
+    }
+    marks
+}

@@ -1,0 +1,101 @@
+// An action on a media.
+use super::anchors::Moving;
+use super::anchors::move_anchors;
+use super::node::node_to;
+use log::Written;
+use machine::terms;
+use records::tables::next_state;
+ghost use mathlib.Core.Path.{_≡_};
+ghost use Prim.Native.Nat.{_<_, _≤_};
+ghost use Rattle.machine.specs.Terms.{toStart, toResume};
+ghost use Rattle.machine.specs.Events.{follows, lineFirst, mediaMoved};
+ghost use Rattle.log.specs.LogSlice.{logOf};
+ghost use Rattle.transitions.specs.Lent.{Rest, runWith, nodeEvents, anchorEvents, anchorsOf};
+ghost use Rattle.transitions.specs.Moves.{moves};
+
+// Whether the media's line goes before those of its anchors.
+fn line_first(action: u8) -> bool
+    ensures { λ r. ⌜ r ≡ lineFirst action ⌝ }
+{
+    if action == terms::TO_START {
+        return true;
+    }
+    action == terms::TO_RESUME
+}
+
+// The anchors that follow their media in an action.
+fn following(action: u8) -> Moving
+    ensures { λ r. ⌜ moves r ≡ follows action ⌝ }
+{
+    if action == terms::TO_START {
+        return Moving::BeginningAt(0);
+    }
+    Moving::Awake
+}
+
+// An action on media n, with its anchors.
+pub fn move_media<'a>(
+    anchors: usize,
+    media: &'a [u8; 128],
+    begins: &'a [u16; 128],
+    ends: &'a [u16; 128],
+    states: &mut [u8; 64],
+    clocks: &mut [u16; 64],
+    counts: &mut [u32; 64],
+    anchor_states: &mut [u8; 128],
+    anchor_counts: &mut [u32; 128],
+    log: &mut [u8],
+    written: Written,
+    action: u8,
+    n: usize,
+) -> Written
+    requires { ⌜ (anchors ≤ 128) × (n < 64) × (toStart ≤ action) × (action ≤ toResume) ⌝ }
+    ensures { λ w. ⌜ ((rest : Rest)
+        → runWith (nodeEvents (now (states .exit)) (now (clocks .exit)) (now (counts .exit)))
+        (anchorEvents (now («anchor_states» .exit)) (now («anchor_counts» .exit))) rest
+        (logOf w (now (log .exit)))
+        ≡ mediaMoved (anchorsOf anchors (now (media .entry)) (now (begins .entry)) (now (ends .entry))) action n
+        (runWith (nodeEvents (now (states .entry)) (now (clocks .entry)) (now (counts .entry)))
+        (anchorEvents (now («anchor_states» .entry)) (now («anchor_counts» .entry))) rest
+        (logOf written (now (log .entry))))) ⌝ }
+{
+    let old = states[n];
+    let new = next_state(old, action);
+    if old == new {
+        return written;
+    }
+    let aborting = action == terms::TO_ABORT;
+    let moving = following(action);
+    if line_first(action) {
+        let v = node_to(states, clocks, counts, &mut *log, written, aborting, n, new);
+        return move_anchors(
+            anchors,
+            media,
+            begins,
+            ends,
+            anchor_states,
+            anchor_counts,
+            log,
+            v,
+            moving,
+            aborting,
+            n,
+            new,
+        );
+    }
+    let v = move_anchors(
+        anchors,
+        media,
+        begins,
+        ends,
+        anchor_states,
+        anchor_counts,
+        &mut *log,
+        written,
+        moving,
+        aborting,
+        n,
+        new,
+    );
+    node_to(states, clocks, counts, log, v, aborting, n, new)
+}

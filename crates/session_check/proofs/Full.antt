@@ -1,23 +1,16 @@
 -- A table with more entries than it has places breaks a rule at the first id that has none.
 use mathlib.Core.Path.{_≡_, refl, sym, ap, _∙_}
 use mathlib.Core.Bool.{Bool, true, false, _&&_, _||_, and-false}
-use Prim.Native.Nat.{ℕ, _≤_, _<_}
+use Prim.Native.Nat.{ℕ, _<_}
 use native.Mathlib.Omega.{arith}
 use borrow.Author.Tests.{lt-leb, leb-true, leb-false}
-use Rattle.base.specs.Tests.{if_then_else_, by-test, both-pass, _=?_, _≤?_}
-use Rattle.base.specs.Loops.{every, each-every, every-fails, every-within}
+use Rattle.base.specs.Tests.{if_then_else_, by-test, _=?_, _≤?_}
+use Rattle.base.specs.Loops.{every, each-every, every-fails}
 use Rattle.machine.specs.declared.Document.{Document}
 use Rattle.machine.specs.Terms.{simpleRule, compositeRule}
 use Rattle.machine.specs.Tables.{ruleAt}
 use Rattle.machine.specs.Records.{nodeFault, anchorFault, propertyFault, ruleFault, bindFault, portFault, linkFault, actionFault}
-use Rattle.machine.specs.Broken.{nodeObeys, anchorObeys, propertyObeys, ruleUnusedZero, ruleObeys, bindObeys, portObeys, linkObeys, actionObeys, tablesObey}
-
-third-fourth : (a b c d e f g h i : Bool) → a && b && c && d && e && f && g && h && i ≡ true → (c ≡ true) × (d ≡ true)
-third-fourth a b c d e f g h i p =
-    let seven = both-pass (a && b && c && d && e && f && g) h (both-pass (a && b && c && d && e && f && g && h) i p .0) .0 in
-    let five = both-pass (a && b && c && d && e) f (both-pass (a && b && c && d && e && f) g seven .0) .0 in
-    let four = both-pass (a && b && c && d) e five .0 in
-    (both-pass (a && b) c (both-pass (a && b && c) d four .0) .1, both-pass (a && b && c) d four .1)
+use Rattle.machine.specs.Broken.{nodeObeys, anchorObeys, propertyObeys, ruleUnusedZero, ruleObeys, bindObeys, portObeys, linkObeys, actionObeys}
 
 module _ (d : Document) where
   pub full-nodes : nodeObeys d 64 ≡ false
@@ -64,13 +57,3 @@ module _ (d : Document) where
       by-test (n ≤? 32)
       (λ e. e ∙ sym (each-every _ n (λ k h. within k (omega (arith, leb-true n 32 e)))))
       (λ e. e ∙ every-fails _ 32 n (leb-false n 32 e) full-properties)
-
-  -- the tables of nodes and anchors have places for their entries
-  pub entries-within : tablesObey d ≡ true → (d .nodes .count ≤ 64) × (d .anchors .count ≤ 128)
-  unfolding tablesObey
-  entries-within e =
-      let obeyed =
-      third-fourth (1 ≤? d .limit) (1 ≤? d .nodes .count) (every (nodeObeys d) (d .nodes .count)) (every (anchorObeys d) (d .anchors .count))
-      (every (propertyObeys d) (d .properties)) (every (ruleObeys d) (d .rules .count)) (every (bindObeys d) (d .binds .count))
-      (every (portObeys d) (d .ports .count)) (every (linkObeys d) (d .links .count)) e in
-      (every-within (nodeObeys d) 64 _ full-nodes (obeyed .0), every-within (anchorObeys d) 128 _ full-anchors (obeyed .1))

@@ -4,3 +4,6 @@ mod Verdicts
 mod Zeros
 mod Full
 mod SamePort
+mod Clocks
+mod DocumentEnds
+mod Slots

@@ -1,6 +1,6 @@
 -- What the proofs of this crate bring in, by one line.
 pub use mathlib.Core.Path.{_≡_, refl, sym, _∙_}
-pub use mathlib.Core.Bool.{true, _&&_}
+pub use mathlib.Core.Bool.{true, false, _&&_}
 pub use mathlib.Core.List.{[], _∷_}
 pub use Prim.Native.Nat.{_≤_, _+_, _*_, _-_}
 pub use native.Mathlib.Omega.{arith}

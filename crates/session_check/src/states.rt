@@ -1,39 +1,44 @@
 // The states obey the rules of composites, anchors and clocks.
 use base::index_of;
-use machine::AnchorEvents;
-use machine::Anchors;
 use machine::Document;
-use machine::NodeEvents;
-use machine::Nodes;
 use machine::State;
 use machine::terms;
-use records::fields::byte_at;
-use records::fields::number_at;
 ghost use mathlib.Core.Path.{_≡_};
 ghost use Prim.Native.Nat.{ℕ, _<_, _≤_};
+ghost use mathlib.Core.Bool.{true, false};
+ghost use lib.ListN.{getD, replicate};
 ghost use Rattle.base.specs.Tests.{if_then_else_};
 ghost use Rattle.base.specs.Loops.{every};
 ghost use Rattle.machine.specs.Terms.{occurring, paused, sleeping};
 ghost use Rattle.machine.specs.Tables.{typeOf, durationOf, anchorAt};
 ghost use Rattle.machine.specs.Events.{nodeState, nodeClock, anchorState, childIn, childrenState};
-ghost use Rattle.machine.specs.Broken.{clockRight, nodeRight, anchorRight, statesRight};
+ghost use Rattle.machine.specs.Broken.{tablesObey, clockRight, nodeRight, anchorRight, statesRight};
+ghost use Rattle.machine.specs.declared.Nodes.{Nodes};
+ghost use Rattle.session_check.specs.Columns.{nodesOf, anchorsOf};
 ghost use Rattle.base.specs.Marks.{Marked};
 
-// A node is marked where it has a child in this state.
-fn with_child_in(nodes: Nodes, states: [u8; 64], state: u8) -> [bool; 256]
-    requires { ⌜ nodes .count ≤ 64 ⌝ }
-    ensures { λ r. ⌜ Marked (childIn nodes states state) (nodes .count) r ⌝ }
+// A parent is marked where one of its children is occurring, and where one is paused.
+fn mark_parents(
+    count: usize,
+    parents: &[u8; 64],
+    states: &[u8; 64],
+    occurs: &mut [bool; 256],
+    pauses: &mut [bool; 256],
+)
+    requires { ⌜ (count ≤ 64) × (now occurs ≡ replicate 256 false) × (now pauses ≡ replicate 256 false) ⌝ }
+    ensures { λ u. ⌜ ((nodes : Nodes) → nodes .parents ≡ now (parents .entry)
+        → Marked (childIn nodes (now (states .entry)) occurring) count (now (occurs .exit))
+        × Marked (childIn nodes (now (states .entry)) paused) count (now (pauses .exit))) ⌝ }
 {
-    let mut marks: [bool; 256] = [false; 256];
-    let count = nodes.count;
     let mut next = 0;
     while next < count {
         let k = next;
         next += 1;
-        let parent = index_of(nodes.parents[k]);
-        marks[parent] = marks[parent] | (states[k] == state);
+        let parent = index_of(parents[k]);
+        let state = states[k];
+        occurs[parent] = occurs[parent] | (state == terms::OCCURRING);
+        pauses[parent] = pauses[parent] | (state == terms::PAUSED);
     }
-    marks
 }
 
 // The state that the children give: whether one is occurring, and whether one is paused.
@@ -49,6 +54,7 @@ fn state_of_children(occurs: bool, pauses: bool) -> u8
     terms::SLEEPING
 }
 
+// A clock of 0 is always right. No branch, so that many nodes are looked at at once.
 fn clock_right(node_type: u8, duration: u16, state: u8, clock: u16) -> bool
     ensures { λ b. ⌜ ((d : Document) (s : State) (n : ℕ)
         → typeOf (d .nodes) n ≡ «node_type»
@@ -57,10 +63,8 @@ fn clock_right(node_type: u8, duration: u16, state: u8, clock: u16) -> bool
         → nodeClock s n ≡ clock
         → b ≡ clockRight d s n) ⌝ }
 {
-    if (node_type == terms::MEDIA) & (state != terms::SLEEPING) {
-        return (duration == 0) | (clock < duration);
-    }
-    clock == 0
+    let is_awake = (node_type == terms::MEDIA) & (state != terms::SLEEPING);
+    (is_awake & ((duration == 0) | (clock < duration))) | (clock == 0)
 }
 
 // A node in this state, whose children give the other one.
@@ -78,29 +82,31 @@ fn node_right(node_type: u8, duration: u16, state: u8, clock: u16, children: u8)
         & clock_right(node_type, duration, state, clock)
 }
 
-fn nodes_right(nodes: Nodes, events: NodeEvents) -> bool
-    requires { ⌜ nodes .count ≤ 64 ⌝ }
-    ensures { λ b. ⌜ ((d : Document) (s : State) → d .nodes ≡ nodes → s .nodes ≡ events
-        → b ≡ every (nodeRight d s) (nodes .count)) ⌝ }
+fn nodes_right<'a>(
+    count: usize,
+    types: &'a [u8; 64],
+    parents: &'a [u8; 64],
+    durations: &'a [u16; 64],
+    states: &'a [u8; 64],
+    clocks: &'a [u16; 64],
+) -> bool
+    requires { ⌜ count ≤ 64 ⌝ }
+    ensures { λ b. ⌜ ((d : Document) (s : State)
+        → d .nodes ≡ nodesOf count (now (types .entry)) (now (parents .entry)) (now (durations .entry))
+        → s .nodes .states ≡ now (states .entry)
+        → s .nodes .clocks ≡ now (clocks .entry)
+        → b ≡ every (nodeRight d s) count) ⌝ }
 {
-    let states = events.states;
-    let occurs = with_child_in(nodes, states, terms::OCCURRING);
-    let pauses = with_child_in(nodes, states, terms::PAUSED);
-    let count = nodes.count;
+    let mut occurs: [bool; 256] = [false; 256];
+    let mut pauses: [bool; 256] = [false; 256];
+    mark_parents(count, parents, states, &mut occurs, &mut pauses);
     let mut right = true;
     let mut next = 0;
     while next < count {
         let n = next;
         next += 1;
         let children = state_of_children(occurs[n], pauses[n]);
-        right = right
-            & node_right(
-                nodes.types[n],
-                nodes.durations[n],
-                events.states[n],
-                events.clocks[n],
-                children,
-            );
+        right = right & node_right(types[n], durations[n], states[n], clocks[n], children);
     }
     right
 }
@@ -121,38 +127,55 @@ fn anchor_right(begin: u16, end: u16, state: u8, clock: u16, media: u8) -> bool
     state == terms::SLEEPING
 }
 
-fn anchors_right(anchors: Anchors, nodes: NodeEvents, events: AnchorEvents) -> bool
-    requires { ⌜ anchors .count ≤ 128 ⌝ }
+// Anchors of media that are given.
+fn anchors_right<'a>(
+    count: usize,
+    media: &'a [u8; 128],
+    begins: &'a [u16; 128],
+    ends: &'a [u16; 128],
+    node_states: &'a [u8; 64],
+    clocks: &'a [u16; 64],
+    states: &'a [u8; 128],
+) -> bool
+    requires { ⌜ (count ≤ 128) × ((a : ℕ) → a < count → getD (now media) a 0 < 64) ⌝ }
     ensures { λ b. ⌜ ((d : Document) (s : State)
-        → d .anchors ≡ anchors
-        → s .nodes ≡ nodes
-        → s .anchors ≡ events
-        → b ≡ every (anchorRight d s) (anchors .count)) ⌝ }
+        → d .anchors ≡ anchorsOf count (now (media .entry)) (now (begins .entry)) (now (ends .entry))
+        → s .nodes .states ≡ now («node_states» .entry)
+        → s .nodes .clocks ≡ now (clocks .entry)
+        → s .anchors .states ≡ now (states .entry)
+        → b ≡ every (anchorRight d s) count) ⌝ }
 {
-    let count = anchors.count;
     let mut right = true;
     let mut next = 0;
     while next < count {
         let a = next;
         next += 1;
-        let media = index_of(anchors.media[a]);
-        let clock = number_at(&nodes.clocks, media);
-        let state = byte_at(&nodes.states, media);
-        right = right
-            & anchor_right(
-                anchors.begins[a],
-                anchors.ends[a],
-                events.states[a],
-                clock,
-                state,
-            );
+        let m = index_of(media[a]);
+        right = right & anchor_right(begins[a], ends[a], states[a], clocks[m], node_states[m]);
     }
     right
 }
 
+// Of tables that obey.
 pub fn states_right(d: Document, s: State) -> bool
-    requires { ⌜ (d .nodes .count ≤ 64) × (d .anchors .count ≤ 128) ⌝ }
+    requires { ⌜ tablesObey d ≡ true ⌝ }
     ensures { λ b. ⌜ b ≡ statesRight d s ⌝ }
 {
-    nodes_right(d.nodes, s.nodes) & anchors_right(d.anchors, s.nodes, s.anchors)
+    nodes_right(
+        d.nodes.count,
+        &d.nodes.types,
+        &d.nodes.parents,
+        &d.nodes.durations,
+        &s.nodes.states,
+        &s.nodes.clocks,
+    )
+        & anchors_right(
+            d.anchors.count,
+            &d.anchors.media,
+            &d.anchors.begins,
+            &d.anchors.ends,
+            &s.nodes.states,
+            &s.nodes.clocks,
+            &s.anchors.states,
+        )
 }

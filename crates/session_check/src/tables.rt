@@ -2,20 +2,14 @@
 use super::ends::is_zero;
 use base::index_of;
 use machine::ActionRecord;
-use machine::Actions;
 use machine::AnchorRecord;
-use machine::Anchors;
 use machine::BindRecord;
-use machine::Binds;
 use machine::Document;
 use machine::LinkRecord;
 use machine::Links;
 use machine::NodeRecord;
-use machine::Nodes;
 use machine::PortRecord;
-use machine::Ports;
 use machine::RuleRecord;
-use machine::Rules;
 use machine::passed;
 use machine::terms;
 use records::checks::check_action;
@@ -31,12 +25,19 @@ ghost use mathlib.Core.Path.{_≡_};
 ghost use Prim.Native.Nat.{_<_};
 ghost use Rattle.base.specs.Loops.{every};
 ghost use Rattle.machine.specs.Tables.{ruleAt};
+ghost use Rattle.session_check.specs.Columns.{nodesOf, anchorsOf, rulesOf, bindsOf, portsOf};
 ghost use Rattle.machine.specs.Broken.{nodeObeys, anchorObeys, propertyObeys, ruleUnusedZero, ruleObeys, bindObeys, portObeys, actionObeys, linkObeys, tablesObey};
 
-fn nodes_obey(nodes: Nodes) -> bool
-    ensures { λ b. ⌜ ((d : Document) → d .nodes ≡ nodes → b ≡ every (nodeObeys d) (nodes .count)) ⌝ }
+fn nodes_obey<'a>(
+    count: usize,
+    types: &'a [u8; 64],
+    parents: &'a [u8; 64],
+    durations: &'a [u16; 64],
+) -> bool
+    ensures { λ b. ⌜ ((d : Document)
+        → d .nodes ≡ nodesOf count (now (types .entry)) (now (parents .entry)) (now (durations .entry))
+        → b ≡ every (nodeObeys d) count) ⌝ }
 {
-    let count = nodes.count;
     if 64 < count {
         return false;
     }
@@ -45,23 +46,35 @@ fn nodes_obey(nodes: Nodes) -> bool
     while next < count {
         let i = next;
         next += 1;
-        let parent = nodes.parents[i];
+        let parent = parents[i];
         let record = NodeRecord {
-            node_type: nodes.types[i],
+            node_type: types[i],
             parent: parent,
-            duration: nodes.durations[i],
+            duration: durations[i],
         };
-        let check = check_node(i, record, byte_at(&nodes.types, index_of(parent)));
+        let check = check_node(i, record, byte_at(types, index_of(parent)));
         obey = obey & passed(check);
     }
     obey
 }
 
-fn anchors_obey(nodes: Nodes, anchors: Anchors) -> bool
-    ensures { λ b. ⌜ ((d : Document) → d .nodes ≡ nodes → d .anchors ≡ anchors
-        → b ≡ every (anchorObeys d) (anchors .count)) ⌝ }
+// Among so many nodes of these types and durations.
+fn anchors_obey<'a>(
+    nodes: usize,
+    types: &'a [u8; 64],
+    durations: &'a [u16; 64],
+    count: usize,
+    media: &'a [u8; 128],
+    begins: &'a [u16; 128],
+    ends: &'a [u16; 128],
+) -> bool
+    ensures { λ b. ⌜ ((d : Document)
+        → d .nodes .count ≡ nodes
+        → d .nodes .types ≡ now (types .entry)
+        → d .nodes .durations ≡ now (durations .entry)
+        → d .anchors ≡ anchorsOf count (now (media .entry)) (now (begins .entry)) (now (ends .entry))
+        → b ≡ every (anchorObeys d) count) ⌝ }
 {
-    let count = anchors.count;
     if 128 < count {
         return false;
     }
@@ -70,16 +83,16 @@ fn anchors_obey(nodes: Nodes, anchors: Anchors) -> bool
     while next < count {
         let i = next;
         next += 1;
-        let media = anchors.media[i];
+        let owner = media[i];
         let record = AnchorRecord {
-            media: media,
-            begin: anchors.begins[i],
-            end: anchors.ends[i],
+            media: owner,
+            begin: begins[i],
+            end: ends[i],
         };
-        let m = index_of(media);
-        let media_type = byte_at(&nodes.types, m);
-        let duration = number_at(&nodes.durations, m);
-        let check = check_anchor(i, record, nodes.count, media_type, duration);
+        let m = index_of(owner);
+        let media_type = byte_at(types, m);
+        let duration = number_at(durations, m);
+        let check = check_anchor(i, record, nodes, media_type, duration);
         obey = obey & passed(check);
     }
     obey
@@ -110,11 +123,24 @@ fn rule_obeys(properties: usize, i: usize, r: RuleRecord) -> bool
         & rule_unused_zero(r)
 }
 
-fn rules_obey(properties: usize, rules: Rules) -> bool
-    ensures { λ b. ⌜ ((d : Document) → d .properties ≡ properties → d .rules ≡ rules
-        → b ≡ every (ruleObeys d) (rules .count)) ⌝ }
+// Among so many properties.
+fn rules_obey<'a>(
+    given: usize,
+    count: usize,
+    kinds: &'a [u8; 32],
+    properties: &'a [u8; 32],
+    comparators: &'a [u8; 32],
+    values: &'a [i32; 32],
+    operators: &'a [u8; 32],
+    lefts: &'a [u8; 32],
+    rights: &'a [u8; 32],
+) -> bool
+    ensures { λ b. ⌜ ((d : Document) → d .properties ≡ given
+        → d .rules ≡ rulesOf count (now (kinds .entry)) (now (properties .entry)) (now (comparators .entry))
+        (now (values .entry))
+        (now (operators .entry)) (now (lefts .entry)) (now (rights .entry))
+        → b ≡ every (ruleObeys d) count) ⌝ }
 {
-    let count = rules.count;
     if 32 < count {
         return false;
     }
@@ -124,25 +150,38 @@ fn rules_obey(properties: usize, rules: Rules) -> bool
         let i = next;
         next += 1;
         let record = RuleRecord {
-            kind: rules.kinds[i],
-            property: rules.properties[i],
-            comparator: rules.comparators[i],
-            value: rules.values[i],
-            operator: rules.operators[i],
-            left: rules.lefts[i],
-            right: rules.rights[i],
+            kind: kinds[i],
+            property: properties[i],
+            comparator: comparators[i],
+            value: values[i],
+            operator: operators[i],
+            left: lefts[i],
+            right: rights[i],
         };
-        obey = obey & rule_obeys(properties, i, record);
+        obey = obey & rule_obeys(given, i, record);
     }
     obey
 }
 
-// A switch is marked where it has a default.
-fn binds_obey(nodes: Nodes, rules: usize, binds: Binds) -> bool
-    ensures { λ b. ⌜ ((d : Document) → d .nodes ≡ nodes → d .rules .count ≡ rules → d .binds ≡ binds
-        → b ≡ every (bindObeys d) (binds .count)) ⌝ }
+// Among so many nodes of these types and parents, and so many rules. A switch is marked where it has a default.
+fn binds_obey<'a>(
+    nodes: usize,
+    types: &'a [u8; 64],
+    parents: &'a [u8; 64],
+    given: usize,
+    count: usize,
+    switches: &'a [u8; 64],
+    children: &'a [u8; 64],
+    rules: &'a [u8; 64],
+) -> bool
+    ensures { λ b. ⌜ ((d : Document)
+        → d .nodes .count ≡ nodes
+        → d .nodes .types ≡ now (types .entry)
+        → d .nodes .parents ≡ now (parents .entry)
+        → d .rules .count ≡ given
+        → d .binds ≡ bindsOf count (now (switches .entry)) (now (children .entry)) (now (rules .entry))
+        → b ≡ every (bindObeys d) count) ⌝ }
 {
-    let count = binds.count;
     if 64 < count {
         return false;
     }
@@ -152,26 +191,18 @@ fn binds_obey(nodes: Nodes, rules: usize, binds: Binds) -> bool
     while next < count {
         let i = next;
         next += 1;
-        let switch = binds.switches[i];
-        let child = binds.children[i];
-        let rule = binds.rules[i];
+        let switch = switches[i];
+        let child = children[i];
+        let rule = rules[i];
         let record = BindRecord {
             switch: switch,
             child: child,
             rule: rule,
         };
         let s = index_of(switch);
-        let switch_type = byte_at(&nodes.types, s);
-        let parent = byte_at(&nodes.parents, index_of(child));
-        let check = check_bind(
-            i,
-            record,
-            nodes.count,
-            rules,
-            switch_type,
-            parent,
-            has_default[s],
-        );
+        let switch_type = byte_at(types, s);
+        let parent = byte_at(parents, index_of(child));
+        let check = check_bind(i, record, nodes, given, switch_type, parent, has_default[s]);
         obey = obey & passed(check);
         has_default[s] = has_default[s] | (rule == terms::NO_ID);
     }
@@ -180,11 +211,21 @@ fn binds_obey(nodes: Nodes, rules: usize, binds: Binds) -> bool
 
 // A child is marked where it has a port. The context of each port so far is its child's parent: the same port is there exactly where
 // the child is marked and this context is its parent.
-fn ports_obey(nodes: Nodes, ports: Ports) -> bool
-    ensures { λ b. ⌜ ((d : Document) → d .nodes ≡ nodes → d .ports ≡ ports
-        → b ≡ every (portObeys d) (ports .count)) ⌝ }
+fn ports_obey<'a>(
+    nodes: usize,
+    types: &'a [u8; 64],
+    parents: &'a [u8; 64],
+    count: usize,
+    contexts: &'a [u8; 64],
+    children: &'a [u8; 64],
+) -> bool
+    ensures { λ b. ⌜ ((d : Document)
+        → d .nodes .count ≡ nodes
+        → d .nodes .types ≡ now (types .entry)
+        → d .nodes .parents ≡ now (parents .entry)
+        → d .ports ≡ portsOf count (now (contexts .entry)) (now (children .entry))
+        → b ≡ every (portObeys d) count) ⌝ }
 {
-    let count = ports.count;
     if 64 < count {
         return false;
     }
@@ -194,17 +235,17 @@ fn ports_obey(nodes: Nodes, ports: Ports) -> bool
     while next < count {
         let i = next;
         next += 1;
-        let context = ports.contexts[i];
-        let child = ports.children[i];
+        let context = contexts[i];
+        let child = children[i];
         let record = PortRecord {
             context: context,
             child: child,
         };
-        let context_type = byte_at(&nodes.types, index_of(context));
-        let parent = byte_at(&nodes.parents, index_of(child));
+        let context_type = byte_at(types, index_of(context));
+        let parent = byte_at(parents, index_of(child));
         let c = index_of(child);
         let has_same_port = has_port[c] & (parent == context);
-        let check = check_port(i, record, nodes.count, context_type, parent, has_same_port);
+        let check = check_port(i, record, nodes, context_type, parent, has_same_port);
         obey = obey & passed(check);
         has_port[c] = true;
     }
@@ -253,30 +294,34 @@ fn actions_obey(
     obey
 }
 
-fn links_obey(
-    nodes: Nodes,
+// Among so many nodes of these types, anchors, properties and rules.
+fn links_obey<'a>(
+    nodes: usize,
+    types: &'a [u8; 64],
     anchors: usize,
     properties: usize,
     rules: usize,
     links: Links,
-    actions: Actions,
+    actions: &'a [u8; 512],
+    targets: &'a [u8; 512],
+    values: &'a [i32; 512],
 ) -> bool
     ensures { λ b. ⌜ ((d : Document)
-        → d .nodes ≡ nodes
+        → d .nodes .count ≡ nodes
+        → d .nodes .types ≡ now (types .entry)
         → d .anchors .count ≡ anchors
         → d .properties ≡ properties
         → d .rules .count ≡ rules
         → d .links ≡ links
-        → d .actions ≡ actions
+        → d .actions .actions ≡ now (actions .entry)
+        → d .actions .targets ≡ now (targets .entry)
+        → d .actions .values ≡ now (values .entry)
         → b ≡ every (linkObeys d) (links .count)) ⌝ }
 {
     let count = links.count;
     if 64 < count {
         return false;
     }
-    let kinds = actions.actions;
-    let targets = actions.targets;
-    let values = actions.values;
     let mut obey = true;
     let mut next = 0;
     while next < count {
@@ -290,24 +335,16 @@ fn links_obey(
             transition: links.transitions[i],
             guard: links.guards[i],
         };
-        let owner_type = byte_at(&nodes.types, index_of(owner));
-        let check = check_link(
-            i,
-            record,
-            nodes.count,
-            anchors,
-            properties,
-            rules,
-            owner_type,
-        );
+        let owner_type = byte_at(types, index_of(owner));
+        let check = check_link(i, record, nodes, anchors, properties, rules, owner_type);
         let actions_right = actions_obey(
-            &kinds,
-            &targets,
-            &values,
+            actions,
+            targets,
+            values,
             i,
             links.action_counts[i],
             count,
-            nodes.count,
+            nodes,
             properties,
         );
         obey = obey & (passed(check) & actions_right);
@@ -315,30 +352,64 @@ fn links_obey(
     obey
 }
 
+// A document is large and stays where it is: each check is lent the columns that it looks at.
 pub fn tables_obey(d: Document) -> bool
     ensures { λ b. ⌜ b ≡ tablesObey d ⌝ }
 {
-    let nodes = d.nodes;
-    let anchors = d.anchors;
-    let rules = d.rules;
-    let binds = d.binds;
-    let ports = d.ports;
-    let links = d.links;
-    let actions = d.actions;
+    let nodes = d.nodes.count;
+    let anchors = d.anchors.count;
+    let rules = d.rules.count;
     (1 <= d.limit)
-        & (1 <= nodes.count)
-        & nodes_obey(nodes)
-        & anchors_obey(nodes, anchors)
+        & (1 <= nodes)
+        & nodes_obey(nodes, &d.nodes.types, &d.nodes.parents, &d.nodes.durations)
+        & anchors_obey(
+            nodes,
+            &d.nodes.types,
+            &d.nodes.durations,
+            anchors,
+            &d.anchors.media,
+            &d.anchors.begins,
+            &d.anchors.ends,
+        )
         & properties_obey(d.properties)
-        & rules_obey(d.properties, rules)
-        & binds_obey(nodes, rules.count, binds)
-        & ports_obey(nodes, ports)
+        & rules_obey(
+            d.properties,
+            rules,
+            &d.rules.kinds,
+            &d.rules.properties,
+            &d.rules.comparators,
+            &d.rules.values,
+            &d.rules.operators,
+            &d.rules.lefts,
+            &d.rules.rights,
+        )
+        & binds_obey(
+            nodes,
+            &d.nodes.types,
+            &d.nodes.parents,
+            rules,
+            d.binds.count,
+            &d.binds.switches,
+            &d.binds.children,
+            &d.binds.rules,
+        )
+        & ports_obey(
+            nodes,
+            &d.nodes.types,
+            &d.nodes.parents,
+            d.ports.count,
+            &d.ports.contexts,
+            &d.ports.children,
+        )
         & links_obey(
             nodes,
-            anchors.count,
+            &d.nodes.types,
+            anchors,
             d.properties,
-            rules.count,
-            links,
-            actions,
+            rules,
+            d.links,
+            &d.actions.actions,
+            &d.actions.targets,
+            &d.actions.values,
         )
 }

@@ -1,7 +1,6 @@
 -- `session_check::is_broken` meets its contract. Assumes nothing.
 use Rattle.session_check.proofs.Prelude.{sym, _∙_, not-true, not-false, needs}
 use Rattle.machine.specs.Broken.{broken}
-use Rattle.session_check.proofs.Full.{entries-within}
 use Rattle.session_check.proofs.is_broken.Statement.{statement}
 use Rattle.session_check.proofs.is_broken.Tie as tie
 
@@ -14,15 +13,12 @@ is-broken-spec =
     (λ c.
     let the-tables-obey = c .before .tables-obey in
     rw (← the-tables-obey .ensures, not-true (the-tables-obey .result) (c .if1 .taken)))  -- returns
-    (λ c κs. search needs)  -- document-ends-zero-requires
+    (λ c κs.
+    sym (c .before .tables-obey .ensures) ∙ not-false _ (c .if1 .left))  -- document-ends-zero-requires
     (λ c κs. search needs)  -- state-ends-zero-requires
     (λ c κs.
-    entries-within _ (sym (c .before .before .before .tables-obey .ensures) ∙ not-false _ (c .before .before .if1 .left)))  -- states-right-requires
+    sym (c .before .before .before .tables-obey .ensures) ∙ not-false _ (c .before .before .if1 .left))  -- states-right-requires
     (λ c.
     let the-tables-obey = c .before .before .before .before .tables-obey in
-    let the-if1 = c .before .before .before .if1 in
-    let the-document-ends-zero = c .before .before .document-ends-zero in
-    let the-state-ends-zero = c .before .state-ends-zero in
-    let the-states-right = c .states-right in
-    rw (← the-tables-obey .ensures, not-false (the-tables-obey .result) (the-if1 .left), ← the-document-ends-zero .ensures, ← the-state-ends-zero .ensures, ← the-states-right .ensures))  -- returns-2
+    rw (← the-tables-obey .ensures, not-false (the-tables-obey .result) (c .before .before .before .if1 .left), ← c .before .before .document-ends-zero .ensures, ← c .before .state-ends-zero .ensures, ← c .states-right .ensures))  -- returns-2
     )

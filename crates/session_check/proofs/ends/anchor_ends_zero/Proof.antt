@@ -13,8 +13,8 @@ anchor-ends-zero-spec =
     (λ c κs. search needs)  -- numbers-zero-from-requires
     (λ c κs. search needs)  -- numbers-zero-from-requires-2
     (λ c.
+    let the-bytes-zero-from = c .before .before .before .before .bytes-zero-from in
+    let the-numbers-zero-from = c .before .before .numbers-zero-from in
     let the-numbers-zero-from2 = c .numbers-zero-from2 in
-    let the-numbers-zero-from = c .before .before .before .before .numbers-zero-from in
-    let the-bytes-zero-from = c .before .before .before .before .before .before .before .before .bytes-zero-from in
     joined (the-bytes-zero-from .result) (the-numbers-zero-from .result ∷ the-numbers-zero-from2 .result ∷ []) ∙ rw (the-numbers-zero-from2 .ensures, the-numbers-zero-from .ensures, the-bytes-zero-from .ensures))  -- returns
     )

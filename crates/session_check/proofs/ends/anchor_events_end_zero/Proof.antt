@@ -12,7 +12,7 @@ anchor-events-end-zero-spec =
     (λ c κs. search needs)  -- bytes-zero-from-requires
     (λ c κs. search needs)  -- counts-zero-from-requires
     (λ c.
-    let the-bytes-zero-from = c .before .before .before .before .bytes-zero-from in
+    let the-bytes-zero-from = c .before .before .bytes-zero-from in
     let the-counts-zero-from = c .counts-zero-from in
     joined (the-bytes-zero-from .result) (the-counts-zero-from .result ∷ []) ∙ rw (the-counts-zero-from .ensures, the-bytes-zero-from .ensures))  -- returns
     )

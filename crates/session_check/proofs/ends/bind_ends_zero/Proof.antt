@@ -13,8 +13,8 @@ bind-ends-zero-spec =
     (λ c κs. search needs)  -- bytes-zero-from-requires-2
     (λ c κs. search needs)  -- bytes-zero-from-requires-3
     (λ c.
+    let the-bytes-zero-from = c .before .before .before .before .bytes-zero-from in
+    let the-bytes-zero-from2 = c .before .before .bytes-zero-from2 in
     let the-bytes-zero-from3 = c .bytes-zero-from3 in
-    let the-bytes-zero-from2 = c .before .before .before .before .bytes-zero-from2 in
-    let the-bytes-zero-from = c .before .before .before .before .before .before .before .before .bytes-zero-from in
     joined (the-bytes-zero-from .result) (the-bytes-zero-from2 .result ∷ the-bytes-zero-from3 .result ∷ []) ∙ rw (the-bytes-zero-from3 .ensures, the-bytes-zero-from2 .ensures, the-bytes-zero-from .ensures))  -- returns
     )

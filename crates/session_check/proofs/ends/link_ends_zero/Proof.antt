@@ -16,11 +16,11 @@ link-ends-zero-spec =
     (λ c κs. search needs)  -- bytes-zero-from-requires-5
     (λ c κs. search needs)  -- bytes-zero-from-requires-6
     (λ c.
+    let the-bytes-zero-from = c .before .before .before .before .before .before .before .before .before .before .bytes-zero-from in
+    let the-bytes-zero-from2 = c .before .before .before .before .before .before .before .before .bytes-zero-from2 in
+    let the-bytes-zero-from3 = c .before .before .before .before .before .before .bytes-zero-from3 in
+    let the-bytes-zero-from4 = c .before .before .before .before .bytes-zero-from4 in
+    let the-bytes-zero-from5 = c .before .before .bytes-zero-from5 in
     let the-bytes-zero-from6 = c .bytes-zero-from6 in
-    let the-bytes-zero-from5 = c .before .before .before .before .bytes-zero-from5 in
-    let the-bytes-zero-from4 = c .before .before .before .before .before .before .before .before .bytes-zero-from4 in
-    let the-bytes-zero-from3 = c .before .before .before .before .before .before .before .before .before .before .before .before .bytes-zero-from3 in
-    let the-bytes-zero-from2 = c .before .before .before .before .before .before .before .before .before .before .before .before .before .before .before .before .bytes-zero-from2 in
-    let the-bytes-zero-from = c .before .before .before .before .before .before .before .before .before .before .before .before .before .before .before .before .before .before .before .before .bytes-zero-from in
     joined (the-bytes-zero-from .result) (the-bytes-zero-from2 .result ∷ the-bytes-zero-from3 .result ∷ the-bytes-zero-from4 .result ∷ the-bytes-zero-from5 .result ∷ the-bytes-zero-from6 .result ∷ []) ∙ rw (the-bytes-zero-from6 .ensures, the-bytes-zero-from5 .ensures, the-bytes-zero-from4 .ensures, the-bytes-zero-from3 .ensures, the-bytes-zero-from2 .ensures, the-bytes-zero-from .ensures))  -- returns
     )

@@ -13,8 +13,8 @@ node-events-end-zero-spec =
     (λ c κs. search needs)  -- numbers-zero-from-requires
     (λ c κs. search needs)  -- counts-zero-from-requires
     (λ c.
-    let the-bytes-zero-from = c .before .before .before .before .before .before .before .before .bytes-zero-from in
-    let the-numbers-zero-from = c .before .before .before .before .numbers-zero-from in
+    let the-bytes-zero-from = c .before .before .before .before .bytes-zero-from in
+    let the-numbers-zero-from = c .before .before .numbers-zero-from in
     let the-counts-zero-from = c .counts-zero-from in
     joined (the-bytes-zero-from .result) (the-numbers-zero-from .result ∷ the-counts-zero-from .result ∷ []) ∙ rw (the-counts-zero-from .ensures, the-numbers-zero-from .ensures, the-bytes-zero-from .ensures))  -- returns
     )

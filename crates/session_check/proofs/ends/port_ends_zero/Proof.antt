@@ -12,7 +12,7 @@ port-ends-zero-spec =
     (λ c κs. search needs)  -- bytes-zero-from-requires
     (λ c κs. search needs)  -- bytes-zero-from-requires-2
     (λ c.
+    let the-bytes-zero-from = c .before .before .bytes-zero-from in
     let the-bytes-zero-from2 = c .bytes-zero-from2 in
-    let the-bytes-zero-from = c .before .before .before .before .bytes-zero-from in
     joined (the-bytes-zero-from .result) (the-bytes-zero-from2 .result ∷ []) ∙ rw (the-bytes-zero-from2 .ensures, the-bytes-zero-from .ensures))  -- returns
     )

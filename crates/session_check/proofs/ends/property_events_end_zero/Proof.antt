@@ -12,7 +12,7 @@ property-events-end-zero-spec =
     (λ c κs. search needs)  -- values-zero-from-requires
     (λ c κs. search needs)  -- counts-zero-from-requires
     (λ c.
-    let the-values-zero-from = c .before .before .before .before .values-zero-from in
+    let the-values-zero-from = c .before .before .values-zero-from in
     let the-counts-zero-from = c .counts-zero-from in
     joined (the-values-zero-from .result) (the-counts-zero-from .result ∷ []) ∙ rw (the-counts-zero-from .ensures, the-values-zero-from .ensures))  -- returns
     )

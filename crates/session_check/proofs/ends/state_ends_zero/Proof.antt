@@ -13,5 +13,6 @@ state-ends-zero-spec =
     (λ c κs. search needs)  -- anchor-events-end-zero-requires
     (λ c κs. search needs)  -- property-events-end-zero-requires
     (λ c.
-    rw (c .property-events-end-zero .ensures, c .before .anchor-events-end-zero .ensures, c .before .before .node-events-end-zero .ensures))  -- returns
+    let the-node-events-end-zero = c .before .before .before .before .before .before .before .before .node-events-end-zero in
+    rw (c .property-events-end-zero .ensures, c .before .before .before .before .anchor-events-end-zero .ensures, the-node-events-end-zero .ensures))  -- returns
     )

@@ -1,6 +1,7 @@
 -- `session_check::states::states_right` meets its contract. Assumes nothing.
-use Rattle.session_check.proofs.Prelude.{refl, needs}
+use Rattle.session_check.proofs.Prelude.{refl, arith, needs}
 use Rattle.machine.specs.Broken.{statesRight}
+use Rattle.machine.proofs.SoundTables.{sound}
 use Rattle.session_check.proofs.states.states_right.Statement.{statement}
 use Rattle.session_check.proofs.states.states_right.Tie as tie
 
@@ -9,11 +10,15 @@ unfolding statesRight
 states-right-spec =
     tie.close
     (tie.spec
-    (λ c κs. search needs)  -- nodes-right-requires
-    (λ c κs. search needs)  -- anchors-right-requires
+    (λ c κs.
+    let the-entry = c .before .before .before .before .before .before .before in
+    sound _ (the-entry .pre) .nodes .few)  -- nodes-right-requires
+    (λ c κs.
+    let the-entry = c .before .before .before .before .before .before .before .before .before .before .before .before .before .before .before .before in
+    let tables = sound _ (the-entry .pre) in
+    (tables .anchors, λ a h. omega (arith, tables .anchor-media a h, tables .nodes .few)))  -- anchors-right-requires
     (λ c.
-    let the-anchors-right = c .anchors-right in
-    let the-entry = c .before .before in
-    let the-nodes-right = c .before .nodes-right in
-    rw (the-anchors-right .ensures (the-entry .args .d) (the-entry .args .s) refl refl refl, the-nodes-right .ensures (the-entry .args .d) (the-entry .args .s) refl refl))  -- returns
+    let the-entry = c .before .before .before .before .before .before .before .before .before .before .before .before .before .before .before .before .before in
+    let the-nodes-right = c .before .before .before .before .before .before .before .before .before .nodes-right in
+    rw (c .anchors-right .ensures (the-entry .args .t1) (the-entry .args .t2) refl refl refl refl, the-nodes-right .ensures (the-entry .args .t1) (the-entry .args .t2) refl refl refl))  -- returns
     )

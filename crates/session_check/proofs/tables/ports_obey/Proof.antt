@@ -4,16 +4,17 @@ use mathlib.Core.Bool.{or-true, and-true}
 use Rattle.machine.specs.Records.{portFault}
 use Rattle.machine.specs.Broken.{portObeys}
 use Rattle.base.specs.Marks.{Marked, marked-none, marked-more}
+use Rattle.session_check.specs.Columns.{portsOf}
 use Rattle.session_check.proofs.Full.{full-ports}
 use Rattle.session_check.proofs.SamePort.{isPortOf, same-port}
 use Rattle.session_check.proofs.tables.ports_obey.Statement.{statement}
 use Rattle.session_check.proofs.tables.ports_obey.Tie as tie
 
 abbrev Inv-loop : tie.InvT-loop
-Inv-loop nodes ports count has-port₀ obey₀ next₀ has-port obey next = (next ≤ ports .count) × Marked (isPortOf ports) next has-port × ((d : Document) → d .nodes ≡ nodes → d .ports ≡ ports → obey ≡ every (portObeys d) next)
+Inv-loop nodes types parents count contexts children has-port₀ obey₀ next₀ has-port obey next = (next ≤ count) × Marked (isPortOf (portsOf count contexts children)) next has-port × ((d : Document) → d .nodes .count ≡ nodes → d .nodes .types ≡ types → d .nodes .parents ≡ parents → d .ports ≡ portsOf count contexts children → obey ≡ every (portObeys d) next)
 
 abbrev μ-loop : tie.MeasureT-loop
-μ-loop nodes ports count has-port₀ obey₀ next₀ has-port obey next = ports .count - next
+μ-loop nodes types parents count contexts children has-port₀ obey₀ next₀ has-port obey next = count - next
 
 pub ports-obey-spec : {M : Type 1} → statement M
 unfolding portObeys
@@ -21,8 +22,10 @@ ports-obey-spec =
     tie.close
     (tie.spec
     Inv-loop μ-loop
-    (λ c. λ d p q. every-fails _ 64 _ (c .if1 .taken) (full-ports d))  -- returns
-    (λ c. (omega arith, marked-none _, λ d p q. every-none _))  -- loop-holds
+    (λ c.
+    let the-if1 = c .if1 in
+    λ d n t a q. every-fails _ 64 _ (the-if1 .taken) (full-ports d))  -- returns
+    (λ c. (omega arith, marked-none _, λ d n t a q. every-none _))  -- loop-holds
     (λ c. search needs)  -- add-next
     (λ c. search needs)  -- element-copy-out-context
     (λ c. search needs)  -- element-copy-out-child
@@ -37,14 +40,17 @@ ports-obey-spec =
     (λ c. search needs)  -- array-write-has-port
     (λ c. search needs)  -- loop-less
     (λ c.
-    let the-index-of3 = c .before .before .index-of3 in
-    let the-loop = c .before .before .before .before .before .before .before .before .before .before .before .before .before .before .before .before .loop in
-    let the-passed = c .passed in
-    let the-check-port = c .before .check-port in
-    let the-index-of = c .before .before .before .before .before .before .before .before .before .index-of in
-    let the-byte-at = c .before .before .before .before .before .before .before .before .byte-at in
     let the-index-of2 = c .before .before .before .before .index-of2 in
     let the-byte-at2 = c .before .before .before .byte-at2 in
-    (omega arith, marked-more _ _ _ _ true _ (the-index-of3 .ensures .1) (λ n. rw (the-index-of3 .ensures .0, and-true)) (rw or-true) (the-loop .inv .1), λ d p q. every-more _ _ (the-loop .inv .2 d p q) (λ o. verdict (portFault d _) _ _ (the-passed .ensures) (the-check-port .ensures d (rw p) (rw p (sym (rw (the-index-of .ensures .0) at (the-byte-at .ensures)))) (rw p (sym (rw (the-index-of2 .ensures .0) at (the-byte-at2 .ensures)))) (same-port d _ _ (sym (the-loop .inv .2 d p q) ∙ o) ∙ rw (p, q, ← (rw (the-index-of2 .ensures .0) at (the-byte-at2 .ensures)), ← the-index-of3 .ensures .0, ← the-loop .inv .1 .marked _ (the-index-of3 .ensures .1)))) (rw q))))  -- loop-again
-    (λ c. λ d p q. every-done _ _ _ (omega arith) (c .before .loop .inv .2 d p q))  -- returns-2
+    let the-index-of3 = c .before .before .index-of3 in
+    let the-loop = c .before .before .before .before .before .before .before .before .before .before .before .before .loop in
+    let the-passed = c .passed in
+    let the-check-port = c .before .check-port in
+    let the-index-of = c .before .before .before .before .before .before .before .index-of in
+    let the-byte-at = c .before .before .before .before .before .before .byte-at in
+    let parent = rw (the-index-of2 .ensures .0) at (the-byte-at2 .ensures) in
+    (omega arith, marked-more _ _ _ _ true _ (the-index-of3 .ensures .1) (λ n. rw (the-index-of3 .ensures .0, and-true)) (rw or-true) (the-loop .inv .1), λ d n t a q. every-more _ _ (the-loop .inv .2 d n t a q) (λ o. verdict (portFault d _) _ _ (the-passed .ensures) (the-check-port .ensures d n (rw t (sym (rw (the-index-of .ensures .0) at (the-byte-at .ensures)))) (rw a (sym parent)) (same-port d _ _ (sym (the-loop .inv .2 d n t a q) ∙ o) ∙ rw (a, q, ← parent, ← the-index-of3 .ensures .0, ← the-loop .inv .1 .marked _ (the-index-of3 .ensures .1)))) (rw q))))  -- loop-again
+    (λ c.
+    let the-loop = c .before .loop in
+    λ d n t a q. every-done _ _ _ (omega arith) (the-loop .inv .2 d n t a q))  -- returns-2
     )

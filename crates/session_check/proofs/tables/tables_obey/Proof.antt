@@ -17,14 +17,13 @@ tables-obey-spec =
     (λ c κs. search needs)  -- ports-obey-requires
     (λ c κs. search needs)  -- links-obey-requires
     (λ c.
-    let the-entry = c .before .before .before .before .before .before .before .before .before .before .before .before .before .before .before .before in
-    let the-links-obey = c .links-obey in
-    let the-ports-obey = c .before .ports-obey in
-    let the-binds-obey = c .before .before .binds-obey in
-    let the-rules-obey = c .before .before .before .rules-obey in
-    let the-properties-obey = c .before .before .before .before .properties-obey in
-    let the-anchors-obey = c .before .before .before .before .before .anchors-obey in
-    let the-nodes-obey = c .before .before .before .before .before .before .nodes-obey in
-    let d = the-entry .args .d in
-    rw (the-links-obey .ensures d refl refl refl refl refl refl, the-ports-obey .ensures d refl refl, the-binds-obey .ensures d refl refl refl, the-rules-obey .ensures d refl refl, the-properties-obey .ensures d, the-anchors-obey .ensures d refl refl, the-nodes-obey .ensures d refl))  -- returns
+    let the-entry = c .before .before .before .before .before .before .before .before .before .before .before .before .before .before .before .before .before .before .before .before .before .before .before .before .before .before .before .before .before .before .before .before .before .before .before .before .before .before .before .before .before .before in
+    let the-ports-obey = c .before .before .before .before .before .before .before .ports-obey in
+    let the-binds-obey = c .before .before .before .before .before .before .before .before .before .before .before .before .before .binds-obey in
+    let the-rules-obey = c .before .before .before .before .before .before .before .before .before .before .before .before .before .before .before .before .before .before .before .before .rules-obey in
+    let the-properties-obey = c .before .before .before .before .before .before .before .before .before .before .before .before .before .before .before .before .before .before .before .before .before .before .before .before .before .before .before .before .before .properties-obey in
+    let the-anchors-obey = c .before .before .before .before .before .before .before .before .before .before .before .before .before .before .before .before .before .before .before .before .before .before .before .before .before .before .before .before .before .before .anchors-obey in
+    let the-nodes-obey = c .before .before .before .before .before .before .before .before .before .before .before .before .before .before .before .before .before .before .before .before .before .before .before .before .before .before .before .before .before .before .before .before .before .before .before .before .before .nodes-obey in
+    let d = the-entry .args .t1 in
+    rw (c .links-obey .ensures d refl refl refl refl refl refl refl refl refl, the-ports-obey .ensures d refl refl refl refl, the-binds-obey .ensures d refl refl refl refl refl, the-rules-obey .ensures d refl refl, the-properties-obey .ensures d, the-anchors-obey .ensures d refl refl refl refl, the-nodes-obey .ensures d refl))  -- returns
     )

@@ -29,7 +29,7 @@ use Rattle.machine.proofs.SoundTables.{applicable}
 use Rattle.machine.proofs.Keep.{Actions, actions, steps, chained-keeps, chosen}
 use Rattle.machine.proofs.Tally.{Tallied, TalliedRun, tallies}
 use Rattle.machine.proofs.Firings.{FiredRun, firings, read-back}
-use Rattle.machine.proofs.Shape.{Shaped, ShapedRun, state-ends}
+use Rattle.machine.proofs.Shape.{Shaped, ShapedRun, HasArrays, state-ends, ends-shaped}
 use Rattle.machine.proofs.Values.{acted-value, ticked-value}
 use Rattle.machine.proofs.Settling.{RightRun, rights}
 use Rattle.machine.proofs.Whole.{WholeTests, whole, unbroken-sound, not-broken, states-right, right-states}
@@ -75,50 +75,17 @@ call-gives s c bytes P refused kept =
 abbrev pub linesAfter : List Line → CallResult → List Line
 linesAfter h r = h ++ (if r .answer .refusal =? 0 then linesOf (r .log) else [])
 
--- ---- all that is kept, together
+-- ---- the run of a call on a session that is not broken
 
-both : (d : Document) (P Q : Run → Type 0) → Actions d P → Actions d Q → Actions d (λ r. P r × Q r)
-both d P Q p q = record {
-  action = λ a r t k. (p .action a r t (k .0), q .action a r t (k .1));
-  tick = λ r k. (p .tick r (k .0), q .tick r (k .1));
-  lines = record {
-    key = λ code r k. (p .lines .key code r (k .0), q .lines .key code r (k .1));
-    firing = λ l r h k. (p .lines .firing l r h (k .0), q .lines .firing l r h (k .1));
-    limit = λ r k. (p .lines .limit r (k .0), q .lines .limit r (k .1));
-  };
-}
-
--- what is kept from call to call, after the lines h of the calls before
-pub record Invariant (h : List Line) (s : Session) : Type 0 where
-  pub unbroken : broken s ≡ false
-  pub shaped : Shaped (s .document) (s .state)
-  pub tallied : Tallied (s .document) (s .state) h
-
-module _ (h : List Line) (s : Session) (invariant : Invariant h s) where
+module _ (s : Session) (unbroken : broken s ≡ false) where
   abbrev d : Document
   d = s .document
 
   abbrev tests : WholeTests s
-  tests = whole s (invariant .unbroken)
+  tests = whole s unbroken
 
   abbrev facts : Sound d
-  facts = unbroken-sound s (invariant .unbroken)
-
-  abbrev Kept : Run → Type 0
-  Kept r = (TalliedRun h d facts r × FiredRun d r) × RightRun d facts r
-
-  keeps : Actions d Kept
-  keeps = both d _ _ (both d _ _ (actions d _ facts (steps d _ (tallies h d facts))) (actions d _ facts (steps d _ (firings d)))) (rights d facts)
-
-  -- ---- the run of a call
-
-  pub first-kept : (bytes : ℕ) → Kept (freshRun (s .state) bytes)
-  unfolding number
-  first-kept bytes =
-      let r = states-right d (s .state) (tests .states) in (
-        ((invariant .shaped, λ _. rw append-nil (invariant .tallied)), record { counted = λ _. refl; below = omega arith; classed = tt; not-13 = λ e. omega arith }),
-        record { timed = record { shaped = invariant .shaped; timed = r .timed }; composed = r .composed },
-      )
+  facts = unbroken-sound s unbroken
 
   -- what actions keep, a call keeps
   module _ (P : Run → Type 0) (keep : Actions d P) where
@@ -139,33 +106,84 @@ module _ (h : List Line) (s : Session) (invariant : Invariant h s) where
   begun-value p (Key code) e n r k = refl
   begun-value p Tick e n r k = ticked-value d facts p r
 
-  pub run-kept : (c : Call) (bytes : ℕ) → argumentFault d c ≡ 0 → Kept (runOf s c bytes)
-  run-kept c bytes e = run-keeps Kept keeps c bytes e (first-kept bytes)
+  -- the session that a call returns is not broken
+  pub first-right : Shaped d (s .state) → (bytes : ℕ) → RightRun d facts (freshRun (s .state) bytes)
+  first-right shaped bytes =
+      let r = states-right d (s .state) (tests .states) in
+      record { timed = record { shaped = shaped; timed = r .timed }; composed = r .composed }
+
+  right-unbroken : (r : Run) → RightRun d facts r → broken (record { document = d; state = r .state }) ≡ false
+  right-unbroken r right =
+      not-broken _ (record {
+        tables = tests .tables;
+        document-ends = tests .document-ends;
+        state-ends = state-ends d (r .state) (right .timed .shaped);
+        states = right-states d (r .state) (record { timed = right .timed .timed; composed = right .composed });
+      })
+
+  pub call-unbroken : HasArrays (s .state) → (c : Call) (bytes : ℕ) → broken (call s c bytes .session) ≡ false
+  unfolding callRefused
+  call-unbroken arrays c bytes =
+      call-gives s c bytes (λ r. broken (r .session) ≡ false) (λ _ _ _. unbroken)
+      (λ e _. right-unbroken _ (run-keeps _ (rights d facts) c bytes e (first-right (ends-shaped d (s .state) arrays (tests .state-ends)) bytes)))
+
+-- ---- all that is kept, together
+
+both : (d : Document) (P Q : Run → Type 0) → Actions d P → Actions d Q → Actions d (λ r. P r × Q r)
+both d P Q p q = record {
+  action = λ a r t k. (p .action a r t (k .0), q .action a r t (k .1));
+  tick = λ r k. (p .tick r (k .0), q .tick r (k .1));
+  lines = record {
+    key = λ code r k. (p .lines .key code r (k .0), q .lines .key code r (k .1));
+    firing = λ l r h k. (p .lines .firing l r h (k .0), q .lines .firing l r h (k .1));
+    limit = λ r k. (p .lines .limit r (k .0), q .lines .limit r (k .1));
+  };
+}
+
+-- what is kept from call to call, after the lines h of the calls before
+pub record Invariant (h : List Line) (s : Session) : Type 0 where
+  pub unbroken : broken s ≡ false
+  pub shaped : Shaped (s .document) (s .state)
+  pub tallied : Tallied (s .document) (s .state) h
+
+module _ (h : List Line) (s : Session) (invariant : Invariant h s) where
+  abbrev tables-sound : Sound (s .document)
+  tables-sound = unbroken-sound s (invariant .unbroken)
+
+  abbrev Kept : Run → Type 0
+  Kept r = (TalliedRun h (s .document) tables-sound r × FiredRun (s .document) r) × RightRun (s .document) tables-sound r
+
+  keeps : Actions (s .document) Kept
+  keeps =
+      let d = s .document in
+      both d _ _ (both d _ _ (actions d _ tables-sound (steps d _ (tallies h d tables-sound))) (actions d _ tables-sound (steps d _ (firings d)))) (rights d tables-sound)
+
+  -- ---- the run of a call
+
+  first-kept : (bytes : ℕ) → Kept (freshRun (s .state) bytes)
+  unfolding number
+  first-kept bytes = (
+    ((invariant .shaped, λ _. rw append-nil (invariant .tallied)), record { counted = λ _. refl; below = omega arith; classed = tt; not-13 = λ e. omega arith }),
+    first-right s (invariant .unbroken) (invariant .shaped) bytes,
+  )
+
+  pub run-kept : (c : Call) (bytes : ℕ) → argumentFault (s .document) c ≡ 0 → Kept (runOf s c bytes)
+  run-kept c bytes e = run-keeps s (invariant .unbroken) Kept keeps c bytes e (first-kept bytes)
 
   -- ---- what a call returns
 
   pub record Returned (r : CallResult) : Type 0 where
     pub still : Invariant (linesAfter h r) (r .session)
-    fires : ReportsFirings (d .limit) r
+    fires : ReportsFirings (s .document .limit) r
     never : r .answer .refusal ≡ 13 → ⊥
-    tables : r .session .document ≡ d
+    tables : r .session .document ≡ s .document
 
   accepted-returns : (bytes : ℕ) (r : Run) → Kept r → r .log .stop ≡ 0 → Returned (acceptedRun s bytes r)
   unfolding if_then_else_
   accepted-returns bytes r k f =
       let back = read-back (r .log .lines) bytes (k .0 .1 .classed) in
-      let right = k .1 in
       record {
-        still = rw back (record {
-          unbroken = not-broken _ (record {
-            tables = tests .tables;
-            document-ends = tests .document-ends;
-            state-ends = state-ends d (r .state) (right .timed .shaped);
-            states = right-states d (r .state) (record { timed = right .timed .timed; composed = right .composed });
-          });
-          shaped = right .timed .shaped;
-          tallied = k .0 .0 .1 f;
-        });
+        still = rw back (record { unbroken = right-unbroken s (invariant .unbroken) r (k .1); shaped = k .1 .timed .shaped; tallied = k .0 .0 .1 f });
         fires = record {
           reports = λ _. rw (back, k .0 .1 .counted f);
           within = λ _. rw (back, ← k .0 .1 .counted f) (k .0 .1 .below);

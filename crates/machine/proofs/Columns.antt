@@ -1,14 +1,14 @@
 -- The columns of the tables, of the document and of what changes: each keeps its places, and past the table's end it is zero.
 use Prim.Native.Nat.{ℕ, zero, suc, _+_, _*_, _≤_, _<_}
 use native.Mathlib.Omega.{arith}
-use mathlib.Core.Bool.{Bool, true}
+use mathlib.Core.Bool.{Bool, true, false≢true}
 use mathlib.Core.List.{List, [], _∷_}
 use mathlib.Core.Path.{_≡_, refl, ap, _∙_}
-use lib.IntN.{ℤ, pos}
+use lib.IntN.{ℤ, pos, negsuc}
 use lib.ListN.{length, getD, set, take, drop, length-set, length-drop}
 use lib.Seq.{getD-set-same, getD-set-other, getD-take, getD-drop, length-take-le}
 use borrow.Author.Tests.{eqb-true, eqb-false, ltb-true, ltb-false}
-use Rattle.base.specs.Tests.{_=?_, _<?_, by-test, pass-both}
+use Rattle.base.specs.Tests.{_=?_, _<?_, equalInts, by-test, both-pass, pass-both}
 use Rattle.machine.specs.Tables.{Column, numbers, integers, Table, nodeTable, anchorTable, ruleTable, bindTable, portTable, linkTable, actionTables}
 use Rattle.machine.specs.Broken.{all, zeroFrom, endsZero, documentEndsZero}
 use Rattle.machine.specs.declared.Document.{Document}
@@ -57,6 +57,45 @@ columns-end n places (integers l ∷ cs) c = pass-both _ _ (all-zero _ (pos 0) r
 
 pub whole-ends : (t : Table) → Whole t → endsZero t ≡ true
 whole-ends t = columns-end (t .count) (t .places) (t .columns)
+
+-- ---- and the other way: zeros past the end, in columns that have their places
+
+zero-all : {A : Type 0} (test : A → Bool) (z : A) → ((x : A) → test x ≡ true → x ≡ z) → (l : List A) (n : ℕ) → all test (drop n l) ≡ true → (i : ℕ) → n ≤ i → getD l i z ≡ z
+unfolding all
+zero-all test z f [] n e i b = refl
+zero-all test z f (x ∷ xs) zero e zero b = f x (both-pass (test x) _ e .0)
+zero-all test z f (x ∷ xs) zero e (suc i) b = zero-all test z f xs zero (both-pass (test x) _ e .1) i (omega arith)
+zero-all test z f (x ∷ xs) (suc n) e zero b = absurd (omega arith)
+zero-all test z f (x ∷ xs) (suc n) e (suc i) b = zero-all test z f xs n e i (omega arith)
+
+zero-value : (x : ℤ) → equalInts x (pos 0) ≡ true → x ≡ pos 0
+zero-value (pos n) e = ap pos (eqb-true n 0 e)
+zero-value (negsuc n) e = absurd (false≢true e)
+
+abbrev Places : ℕ → List Column → Type 0
+Places places [] = Unit {0}
+Places places (numbers l ∷ cs) = (length l ≡ places) × Places places cs
+Places places (integers l ∷ cs) = (length l ≡ places) × Places places cs
+
+columns-fit : (n places : ℕ) (cs : List Column) → Places places cs → all (zeroFrom n) cs ≡ true → Fits n places cs
+unfolding all
+columns-fit n places [] p e = tt
+columns-fit n places (numbers l ∷ cs) p e =
+    let k = both-pass (zeroFrom n (numbers l)) _ e in (
+      record { len = p .0; ends = zero-all (λ x. x =? 0) 0 (λ x. eqb-true x 0) l n (k .0) },
+      columns-fit n places cs (p .1) (k .1),
+    )
+columns-fit n places (integers l ∷ cs) p e =
+    let k = both-pass (zeroFrom n (integers l)) _ e in (
+      record { len = p .0; ends = zero-all (λ x. equalInts x (pos 0)) (pos 0) zero-value l n (k .0) },
+      columns-fit n places cs (p .1) (k .1),
+    )
+
+abbrev pub HasPlaces : Table → Type 0
+HasPlaces t = Places (t .places) (t .columns)
+
+pub ends-whole : (t : Table) → HasPlaces t → endsZero t ≡ true → Whole t
+ends-whole t = columns-fit (t .count) (t .places) (t .columns)
 
 -- ---- a column of the actions, in eight places for each link
 

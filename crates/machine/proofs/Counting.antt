@@ -21,7 +21,7 @@ use Rattle.machine.proofs.Keep.{steps, actions}
 use Rattle.machine.proofs.Shape.{ShapedRun, shapes}
 use Rattle.machine.proofs.Firings.{read-back}
 use Rattle.machine.proofs.Whole.{unbroken-sound}
-use Rattle.machine.proofs.Calls.{call-gives, linesAfter, Invariant, first-kept, begun-keeps, begun-value, run-keeps, run-kept, call-returns}
+use Rattle.machine.proofs.Calls.{call-gives, linesAfter, Invariant, first-right, begun-keeps, begun-value, run-keeps, run-kept, call-returns}
 use Rattle.machine.proofs.FirstSession.{loaded-invariant}
 use Rattle.machine.proofs.Demand.{demand-3}
 use Rattle.machine.proofs.Showing.{Shows, shows, anchor-given, is-anchor}
@@ -49,17 +49,17 @@ module _ (m p : ℕ) (before : ℤ) (h : List Line) (s : Session) (invariant : I
 
   run-latest : (c : Call) (bytes : ℕ) → argumentFault d c ≡ 0 → LatestRun h d m facts p showing (runOf s c bytes)
   run-latest c bytes e =
-      run-keeps h s invariant _ (actions d _ facts (latests h d m facts p showing)) c bytes e
-      (first-kept h s invariant bytes .1 .timed, record { room = omega (arith, facts .anchors, invariant .shaped .anchors .0 .len); holds = λ _. rw append-nil (counting .latest) })
+      run-keeps s (invariant .unbroken) _ (actions d _ facts (latests h d m facts p showing)) c bytes e
+      (first-right s (invariant .unbroken) (invariant .shaped) bytes .timed, record { room = omega (arith, facts .anchors, invariant .shaped .anchors .0 .len); holds = λ _. rw append-nil (counting .latest) })
 
   run-value : (c : Call) (bytes : ℕ) → argumentFault d c ≡ 0 → commandSets p c ≡ false → runOf s c bytes .log .stop ≡ 0
       → valueOf (runOf s c bytes .state) p ≡ lastCount d m p before (h ++ runOf s c bytes .log .lines)
   unfolding runOf
   run-value c bytes e n =
       chained-value d facts p m showing before h _
-      (begun-keeps h s invariant (ShapedRun d) (actions d _ facts (steps d _ (shapes d))) c e _ (invariant .shaped))
-      (begun-keeps h s invariant (AddedRun d _) (actions d _ facts (steps d _ (adds d _))) c e _ (none-added _ (omega arith)) .fits)
-      (λ _. begun-value h s invariant p c e n _ (invariant .shaped) ∙ counting .value)
+      (begun-keeps s (invariant .unbroken) (ShapedRun d) (actions d _ facts (steps d _ (shapes d))) c e _ (invariant .shaped))
+      (begun-keeps s (invariant .unbroken) (AddedRun d _) (actions d _ facts (steps d _ (adds d _))) c e _ (none-added _ (omega arith)) .fits)
+      (λ _. begun-value s (invariant .unbroken) p c e n _ (invariant .shaped) ∙ counting .value)
 
   -- ---- what a call returns
 

@@ -1,6 +1,7 @@
 -- The tables of a state keep their lengths, and past their ends they stay zero: kept by the smallest steps.
 use mathlib.Core.Bool.{true}
 use mathlib.Core.Path.{_≡_}
+use Rattle.base.specs.Tests.{both-pass}
 use Rattle.machine.specs.Tables.{nodeEventTable, anchorEventTable, propertyEventTable}
 use Rattle.machine.specs.Events.{Run, nodeChanged, nodeTo, anchorChanged, anchorTo, setProperty}
 use Rattle.machine.specs.Tick.{keyed}
@@ -9,7 +10,7 @@ use Rattle.machine.specs.Broken.{stateEndsZero}
 use Rattle.machine.specs.declared.Document.{Document}
 use Rattle.machine.specs.declared.State.{State}
 use Rattle.machine.proofs.Keep.{Primitives, chosen}
-use Rattle.machine.proofs.Columns.{Whole, stored, whole-ends}
+use Rattle.machine.proofs.Columns.{Whole, HasPlaces, stored, whole-ends, ends-whole}
 
 pub record Shaped (d : Document) (s : State) : Type 0 where
   pub nodes : Whole (nodeEventTable (d .nodes .count) (s .nodes))
@@ -19,6 +20,23 @@ pub record Shaped (d : Document) (s : State) : Type 0 where
 pub state-ends : (d : Document) (s : State) → Shaped d s → stateEndsZero d s ≡ true
 unfolding stateEndsZero
 state-ends d s p = rw (whole-ends (nodeEventTable (d .nodes .count) (s .nodes)) (p .nodes), whole-ends (anchorEventTable (d .anchors .count) (s .anchors)) (p .anchors), whole-ends (propertyEventTable (d .properties) (s .properties)) (p .properties))
+
+-- the arrays of a state, of any document, have their lengths
+pub record HasArrays (s : State) : Type 0 where
+  pub nodes : HasPlaces (nodeEventTable 0 (s .nodes))
+  pub anchors : HasPlaces (anchorEventTable 0 (s .anchors))
+  pub properties : HasPlaces (propertyEventTable 0 (s .properties))
+
+pub ends-shaped : (d : Document) (s : State) → HasArrays s → stateEndsZero d s ≡ true → Shaped d s
+unfolding stateEndsZero
+ends-shaped d s a e =
+    let k = both-pass _ _ e in
+    let l = both-pass _ _ (k .0) in
+    record {
+      nodes = ends-whole (nodeEventTable (d .nodes .count) (s .nodes)) (a .nodes) (l .0);
+      anchors = ends-whole (anchorEventTable (d .anchors .count) (s .anchors)) (a .anchors) (l .1);
+      properties = ends-whole (propertyEventTable (d .properties) (s .properties)) (a .properties) (k .1);
+    }
 
 module _ (d : Document) where
   abbrev pub ShapedRun : Run → Type 0

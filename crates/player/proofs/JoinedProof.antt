@@ -7,14 +7,15 @@ use mathlib.Core.Path.{_≡_, refl, sym, ap, _∙_}
 use lib.Dec.{lit<}
 use lib.IntN.{ℤ, pos}
 use lib.ListN.{length}
+use denote.Ref.{now}
 use borrow.Author.Tests.{eqb-true, ltb-true}
 use Rattle.base.specs.Tests.{if_then_else_, _<?_, both-pass, not-false}
 use Rattle.machine.specs.Terms.{ofProperty}
 use Rattle.machine.specs.Tables.{anchorAt}
-use Rattle.machine.specs.Answers.{Answer, refused, readAnswer, countAnswer}
+use Rattle.machine.specs.Answers.{Answer, refused, readAnswer, countsAnswer, countAnswer}
 use Rattle.machine.specs.Operations.{CallResult, call, sessionAfter, resultsOf, joined, readState, read}
-use Rattle.machine.specs.Load.{LoadResult}
-use Rattle.machine.specs.Counts.{failing, showsCounts, countOf, withCount, giveCount, valueOf, NeverSets, CountsShown}
+use Rattle.machine.specs.Load.{LoadResult, load}
+use Rattle.machine.specs.Counts.{failing, showsCounts, checkCounts, countOf, withCount, giveCount, valueOf, NeverSets, CountsShown}
 use Rattle.machine.proofs.Keep.{chosen}
 use Rattle.machine.proofs.Demand.{demand-3}
 use Rattle.machine.proofs.Showing.{check-shows}
@@ -24,33 +25,49 @@ use Rattle.machine.specs.declared.Session.{Session}
 use Rattle.machine.specs.declared.Call.{Call}
 use Rattle.machine.specs.declared.Reading.{Reading}
 use Rattle.machine.specs.declared.ReadAnswer.the-variants.{Found}
+use Rattle.machine.specs.declared.CountsAnswer.the-variants.{Shown}
 use Rattle.machine.specs.declared.CountAnswer.the-variants.{Count}
-use Rattle.player.specs.Joined.{Made, resultOf, resultsOfMade, sessionAfterMade, AsPromised, ForEveryListMade, NeverSetsMade, CountsForEveryListMade}
+use Rattle.document.specs.Loading.{loadResult}
+use Rattle.player.proofs.Joined.{CallOf, Made, by-call, by-command, by-key, by-tick, sessionOf, callOf, bytesOf, resultOf, resultsOfMade, sessionAfterMade, MadeFrom, LoadedDocument, sessionLoaded, ForEveryListMade, NeverSetsMade, CheckedCounts, CountGiven, PropertyRead, CountsForEveryListMade}
+
+-- the contracts say what the definition gives
+promise : (m : Made) → resultOf m ≡ call (sessionOf m) (callOf m) (bytesOf m)
+promise (by-call m) = m .promised
+promise (by-command m) = m .promised
+promise (by-key m) = m .promised
+promise (by-tick m) = m .promised
+
+gives : (s : Session) (m : Made) → sessionOf m ≡ s → resultOf m ≡ call s (callOf m) (bytesOf m)
+gives s m e = rw (← e) (promise m)
+
+load-gives : (l : LoadedDocument) → loadResult (l .loading .returned) ≡ load (now (l .loading .handed .0))
+load-gives l = l .loading .promised
 
 callsOf : List Made → List (Call × ℕ)
 callsOf [] = []
-callsOf (m ∷ ms) = (m .call, m .bytes) ∷ callsOf ms
+callsOf (m ∷ ms) = (callOf m, bytesOf m) ∷ callsOf ms
 
-same-session : (s : Session) (ms : List Made) → AsPromised s ms → sessionAfterMade s ms ≡ sessionAfter s (callsOf ms)
+same-session : (s : Session) (ms : List Made) → MadeFrom s ms → sessionAfterMade s ms ≡ sessionAfter s (callsOf ms)
 unfolding callsOf sessionAfter
 same-session s [] p = refl
-same-session s (m ∷ ms) p = same-session (m .returned .session) ms (p .1) ∙ ap (λ (r : CallResult). sessionAfter (r .session) (callsOf ms)) (p .0)
+same-session s (m ∷ ms) p = same-session (resultOf m .session) ms (p .1) ∙ ap (λ (r : CallResult). sessionAfter (r .session) (callsOf ms)) (gives s m (p .0))
 
-same-results : (s : Session) (ms : List Made) → AsPromised s ms → resultsOfMade ms ≡ resultsOf s (callsOf ms)
+same-results : (s : Session) (ms : List Made) → MadeFrom s ms → resultsOfMade ms ≡ resultsOf s (callsOf ms)
 unfolding callsOf resultsOf
 same-results s [] p = refl
-same-results s (m ∷ ms) p = rw (← p .0) (ap (λ (rs : List CallResult). resultOf m ∷ rs) (same-results (m .returned .session) ms (p .1)))
+same-results s (m ∷ ms) p = rw (← gives s m (p .0)) (ap (λ (rs : List CallResult). resultOf m ∷ rs) (same-results (resultOf m .session) ms (p .1)))
 
 pub demand-3-made : ForEveryListMade
-demand-3-made document loaded e accepted made p =
-    let same : loaded .session ≡ _ = ap (λ (r : LoadResult). r .session) e in
-    rw (same-session (loaded .session) made p, same-results (loaded .session) made p, same)
-    (demand-3 document (ap (λ (r : LoadResult). r .answer .refusal) (sym e) ∙ accepted) (callsOf made))
+demand-3-made loaded made p =
+    let e = load-gives loaded in
+    let same : sessionLoaded loaded ≡ _ = ap (λ (r : LoadResult). r .session) e in
+    rw (same-session (sessionLoaded loaded) made p, same-results (sessionLoaded loaded) made p, same)
+    (demand-3 _ (ap (λ (r : LoadResult). r .answer .refusal) (sym e) ∙ loaded .accepted) (callsOf made))
 
-never-sets : (p : ℕ) (s : Session) (ms : List Made) → AsPromised s ms → NeverSetsMade p ms → NeverSets p s (callsOf ms)
+never-sets : (p : ℕ) (s : Session) (ms : List Made) → MadeFrom s ms → NeverSetsMade p ms → NeverSets p s (callsOf ms)
 unfolding callsOf
 never-sets p s [] a n = tt
-never-sets p s (m ∷ ms) a n = rw (← a .0) (n .0, never-sets p (m .returned .session) ms (a .1) (n .1))
+never-sets p s (m ∷ ms) a n = rw (← gives s m (a .0)) (n .0, never-sets p (resultOf m .session) ms (a .1) (n .1))
 
 -- ---- what the answers of read and count_of say: an accepted one has its value in second place
 
@@ -94,16 +111,28 @@ given-count s a p count none =
     Gives : Answer → Type 0
     Gives r = r ≡ countAnswer (Count count) → (a < s .document .anchors .count) × (countOf (s .document) p a ≡ count)
 
+-- what the three operations promise of the arguments that they were handed
+checked : (s : Session) (m p : ℕ) → CheckedCounts s m p → checkCounts s m p ≡ countsAnswer Shown
+checked s m p c = sym (rw (c .session, c .media, c .property) at (c .checking .promised)) ∙ ap countsAnswer (c .shown)
+
+given : (s : Session) (a p : ℕ) (count : ℤ) → CountGiven s a p count → giveCount s a p ≡ countAnswer (Count count)
+given s a p count c = sym (rw (c .session, c .anchor, c .property) at (c .giving .promised)) ∙ ap countAnswer (c .gave)
+
+was-read : (s : Session) (p : ℕ) (reading : Reading) → PropertyRead s p reading → read s ofProperty p ≡ readAnswer (Found reading)
+was-read s p reading c = sym (rw (c .session, c .class, c .id) at (c .reads .promised)) ∙ ap readAnswer (c .found)
+
 pub counts-made : CountsForEveryListMade
 unfolding showsCounts
-counts-made document loaded e accepted m p shown made a n =
-    let same : loaded .session ≡ _ = ap (λ (r : LoadResult). r .session) e in
-    let shows = check-shows (loaded .session) m p (sym shown) in
-    let after : CountsShown (loaded .session .document) m p (valueOf (loaded .session .state) p) (sessionAfterMade (loaded .session) made .state) (joined (resultsOfMade made))
-    = rw (same-session (loaded .session) made a, same-results (loaded .session) made a, same)
-    (counts document (ap (λ (r : LoadResult). r .answer .refusal) (sym e) ∙ accepted) m p (rw same at shows) (callsOf made) (rw same at (never-sets p (loaded .session) made a n))) in (
+counts-made loaded m p shown made a n =
+    let s = sessionLoaded loaded in
+    let e = load-gives loaded in
+    let same : s ≡ _ = ap (λ (r : LoadResult). r .session) e in
+    let shows = check-shows s m p (checked s m p shown) in
+    let after : CountsShown (s .document) m p (valueOf (s .state) p) (sessionAfterMade s made .state) (joined (resultsOfMade made))
+    = rw (same-session s made a, same-results s made a, same)
+    (counts _ (ap (λ (r : LoadResult). r .answer .refusal) (sym e) ∙ loaded .accepted) m p (rw same at shows) (callsOf made) (rw same at (never-sets p s made a n))) in (
       after,
-      λ anchor count reading gave read own awake inside.
-          let given = given-count (loaded .session) anchor p count (rw own (eqb-true _ 0 shows)) (sym gave) in
-          sym (read-value _ p reading (sym read)) ∙ after .shown anchor (given .0) own awake inside ∙ given .1,
+      λ anchor count reading gave found own awake inside.
+          let of-anchor = given-count s anchor p count (rw own (eqb-true _ 0 shows)) (given s anchor p count gave) in
+          sym (read-value _ p reading (was-read _ p reading found)) ∙ after .shown anchor (of-anchor .0) own awake inside ∙ of-anchor .1,
     )

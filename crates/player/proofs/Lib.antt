@@ -1,2 +1,2 @@
-mod ReadEvents
+pub mod Joined
 pub mod JoinedProof

@@ -19,7 +19,7 @@ ghost use Rattle.machine.specs.Operations.{command, call, read};
 ghost use Rattle.machine.specs.declared.Call.the-variants.{Key, Tick};
 ghost use Rattle.machine.specs.Counts.{checkCounts, giveCount};
 ghost use Rattle.document.specs.Loading.{loadResult};
-ghost use Rattle.player.specs.Promises.{callResult};
+ghost use Rattle.engine.specs.Promises.{callResult};
 ghost use Rattle.probe.specs.Returning.{loadIn, callIn, readIn, checkIn, countIn};
 
 // What a load or a call returned: the number of its refusal, or that it was accepted, with the firings of a call.

@@ -1,9 +1,9 @@
--- `player::refuse` meets its contract. Assumes nothing.
+-- `engine::refuse` meets its contract. Assumes nothing.
 use Rattle.machine.specs.Operations.{callRefused}
-use Rattle.events.specs.LogSlice.{lines-none}
+use Rattle.log.specs.LogSlice.{lines-none}
 use borrow.Author.Needs.{needs}
-use Rattle.player.proofs.refuse.Statement.{statement}
-use Rattle.player.proofs.refuse.Tie as tie
+use Rattle.engine.proofs.refuse.Statement.{statement}
+use Rattle.engine.proofs.refuse.Tie as tie
 
 pub refuse-spec : {M : Type 1} → statement M
 unfolding callRefused

@@ -1,9 +1,9 @@
--- `player::begin` meets its contract. Assumes nothing.
+-- `engine::begin` meets its contract. Assumes nothing.
 use Rattle.machine.specs.Operations.{argumentFault, begun}
 use Rattle.machine.proofs.Calls.{command-applicable}
 use borrow.Author.Needs.{needs}
-use Rattle.player.proofs.begin.Statement.{statement}
-use Rattle.player.proofs.begin.Tie as tie
+use Rattle.engine.proofs.begin.Statement.{statement}
+use Rattle.engine.proofs.begin.Tie as tie
 
 pub begin-spec : {M : Type 1} → statement M
 unfolding begun argumentFault

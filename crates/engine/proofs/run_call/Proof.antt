@@ -1,8 +1,8 @@
--- `player::run_call` meets its contract. Assumes nothing.
+-- `engine::run_call` meets its contract. Assumes nothing.
 use Rattle.machine.specs.Operations.{runOf}
 use borrow.Author.Needs.{needs}
-use Rattle.player.proofs.run_call.Statement.{statement}
-use Rattle.player.proofs.run_call.Tie as tie
+use Rattle.engine.proofs.run_call.Statement.{statement}
+use Rattle.engine.proofs.run_call.Tie as tie
 
 pub run-call-spec : {M : Type 1} → statement M
 unfolding runOf

@@ -1,12 +1,12 @@
--- `player::check_arguments` meets its contract. Assumes nothing.
+-- `engine::check_arguments` meets its contract. Assumes nothing.
 use mathlib.Core.Path.{refl}
 use mir.Facts.{toZ-ofZ}
 use mir.Syntax.{w32}
 use Rattle.base.specs.Tests.{if_then_else_}
 use Rattle.machine.specs.Operations.{commandFault, argumentFault}
 use borrow.Author.Needs.{needs}
-use Rattle.player.proofs.check_arguments.Statement.{statement}
-use Rattle.player.proofs.check_arguments.Tie as tie
+use Rattle.engine.proofs.check_arguments.Statement.{statement}
+use Rattle.engine.proofs.check_arguments.Tie as tie
 
 pub check-arguments-spec : {M : Type 1} → statement M
 unfolding commandFault argumentFault if_then_else_

@@ -1,10 +1,10 @@
--- `player::read_event` meets its contract. Assumes nothing.
+-- `engine::read_event` meets its contract. Assumes nothing.
 use borrow.Author.Needs.{needs}
 use borrow.Author.Tests.{ne-eqb}
 use Rattle.base.specs.Tests.{if_then_else_}
 use Rattle.machine.specs.Operations.{readState}
-use Rattle.player.proofs.read_event.Statement.{statement}
-use Rattle.player.proofs.read_event.Tie as tie
+use Rattle.engine.proofs.read_event.Statement.{statement}
+use Rattle.engine.proofs.read_event.Tie as tie
 
 pub read-event-spec : {M : Type 1} → statement M
 unfolding readState if_then_else_

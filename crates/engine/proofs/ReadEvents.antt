@@ -9,7 +9,7 @@ use Rattle.machine.specs.Terms.{ofNode, ofProperty}
 use Rattle.machine.specs.Records.{subjectGiven}
 use Rattle.machine.specs.Sound.{Sound}
 use Rattle.machine.specs.declared.Document.{Document}
-use Rattle.player.specs.Promises.{Within}
+use Rattle.engine.specs.Promises.{Within}
 
 pub within : (d : Document) (class id : ℕ) → Sound d → ofNode ≤? class && class ≤? ofProperty ≡ true → subjectGiven d class id ≡ true → Within class id
 unfolding subjectGiven if_then_else_

@@ -1,11 +1,11 @@
--- `player::end` meets its contract. Assumes nothing.
+-- `engine::end` meets its contract. Assumes nothing.
 use borrow.Author.Needs.{needs}
 use Rattle.base.specs.Tests.{if_then_else_}
 use Rattle.machine.specs.Answers.{numbered}
 use Rattle.machine.specs.Chain.{goesOn}
 use Rattle.machine.specs.Operations.{ended}
-use Rattle.player.proofs.end.Statement.{statement}
-use Rattle.player.proofs.end.Tie as tie
+use Rattle.engine.proofs.end.Statement.{statement}
+use Rattle.engine.proofs.end.Tie as tie
 
 pub end-spec : {M : Type 1} → statement M
 unfolding ended goesOn if_then_else_

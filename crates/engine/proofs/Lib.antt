@@ -1,0 +1,2 @@
+mod ReadEvents
+mod Unbroken

@@ -1,3 +1,3 @@
-mod Room
+pub mod Room
 mod Places
 mod Records

@@ -50,10 +50,6 @@ scriptLength kind = getD scriptLengths kind 0
 abbrev pub isScriptKind : ℕ → Bool
 isScriptKind kind = 1 ≤? kind && kind ≤? 3
 
--- the bytes of the longest record, its kind and a command's fields
-abbrev pub longestRecord : ℕ
-longestRecord = 7
-
 -- a whole record of a known kind stands there
 unfoldable pub isCall : ℕ → List ℕ → Bool
 isCall kind rest = isScriptKind kind && scriptLength kind ≤? length rest

@@ -1,31 +1,26 @@
 // The printed run: reads the files `doc` and `script` of the folder that it is started in, and prints a line for each call.
 //
-// What is printed is written by the library `printing`. Here files are read, the player is called, and lines go to standard output.
+// What is printed is made by the libraries `script_run` and `printing`. Here files are read, and lines go to standard output.
+use document_front::DECIDING_BYTES;
 use libc::STDOUT_FILENO;
-use machine::CallAnswer;
-use machine::Called;
 use machine::LoadAnswer;
 use machine::Session;
-use printing::script::LONGEST_RECORD;
-use printing::script::ScriptRecord;
+ghost use mathlib.Core.Bool.{false};
 ghost use mathlib.Core.Path.{_≡_};
-ghost use Prim.Native.Nat.{_+_, _*_, _<_, _≤_};
+ghost use Prim.Native.Nat.{_≤_};
 ghost use lib.ListN.{length};
-ghost use Rattle.machine.specs.PrintedRun.{longestRecord};
+ghost use Rattle.machine.specs.Broken.{broken};
+ghost use Rattle.printed_run.specs.Held.{Held};
 
-// A run of a script, with the bytes that are read of a record, and whether it goes on.
+// A run of a script: the session and the number of the next call; the bytes that were read and are not run yet, from `start` to `end`;
+// whether these are a cut record, or none; whether the script is read to its end; and whether the run goes on.
 struct ScriptRun {
     session: Session,
     number: u64,
-    record: [u8; LONGEST_RECORD],
-    size: usize,
-    goes_on: bool,
-}
-
-// The lines of a run: how many there are, how many bytes of `out` those fill that are not written yet, and whether the run goes on.
-struct Lines {
-    number: u64,
-    filled: usize,
+    start: usize,
+    end: usize,
+    is_cut: bool,
+    is_read: bool,
     goes_on: bool,
 }
 
@@ -40,107 +35,43 @@ fn print(line: &[u8]) -> bool {
     is_written
 }
 
-fn stopped(mut lines: Lines) -> Lines
-    ensures { λ r. ⌜ r .filled ≡ lines .filled ⌝ }
+fn stopped(mut run: ScriptRun) -> ScriptRun
+    ensures { λ r. ⌜ (r .session ≡ run .session) × (r .start ≡ run .start) × (r .end ≡ run .end) ⌝ }
 {
-    lines.goes_on = false;
-    lines
+    run.goes_on = false;
+    run
 }
 
-fn write_lines(mut lines: Lines, out: &[u8]) -> Lines
-    requires { ⌜ lines .filled ≤ length (now out) ⌝ }
-    ensures { λ r. ⌜ r .filled ≡ 0 ⌝ }
+// Runs what is held, as far as there is room in `out` for its lines, and writes these. A run stops before the number of a call could
+// be too large. Where there is room left, a cut record is left.
+fn run_held(run: ScriptRun, part: &[u8], log: &mut [u8], out: &mut [u8]) -> ScriptRun
+    requires { ⌜ Held run (length (now part)) × (length (now log) ≡ 65_536) ⌝ }
+    ensures { λ r. ⌜ Held r (length (now (part .entry))) ⌝ }
 {
-    let filled = lines.filled;
-    lines.filled = 0;
+    let start = run.start;
+    let end = run.end;
+    let number = run.number;
+    if u64::MAX - number < (end - start) as u64 {
+        return stopped(run);
+    }
+    let ran = script_run::run_part(run.session, number, &part[start..end], &mut *log, &mut *out);
+    let filled = ran.filled;
     let is_written = print(&out[..filled]);
-    if !is_written {
-        return stopped(lines);
-    }
-    lines
-}
-
-// The line of a call. There is always room in `out` for one line more: where the next might not fit, all are written.
-fn add_line(mut lines: Lines, answer: CallAnswer, log: &[u8], out: &mut [u8]) -> Lines
-    requires { ⌜ lines .filled + (50 + 3 * length (now log)) ≤ length (now out) ⌝ }
-    ensures { λ r. ⌜ r .filled + (50 + 3 * length (now (log .entry))) ≤ length (now (out .entry)) ⌝ }
-{
-    let mut number = lines.number;
-    if number == u64::MAX {
-        return stopped(lines);
-    }
-    number += 1;
-    let mut filled = lines.filled;
-    filled += printing::lines::call_line(&mut out[filled..], number, answer, log);
-    lines.number = number;
-    lines.filled = filled;
-    if out.len() - filled < 50 + 3 * log.len() {
-        return write_lines(lines, &*out);
-    }
-    lines
-}
-
-// The line of a wrong record, after those of the calls before it.
-fn end_lines(lines: Lines, out: &[u8]) -> Lines
-    requires { ⌜ lines .filled ≤ length (now out) ⌝ }
-    ensures { λ r. ⌜ r .filled ≡ 0 ⌝ }
-{
-    let written = write_lines(lines, out);
-    if written.goes_on {
-        print(b"script\n");
-    }
-    stopped(written)
-}
-
-// ---- the script, byte by byte
-
-// What is cut of a record has fewer bytes than the longest one. All lines are written before more of the script is read:
-// whoever feeds it through a pipe sees the lines of what has been read.
-fn run_part(run: ScriptRun, bytes: &[u8], log: &mut [u8], out: &mut [u8]) -> ScriptRun
-    requires { ⌜ (50 + 3 * length (now log) ≤ length (now out)) × (run .size < longestRecord) ⌝ }
-    ensures { λ r. ⌜ r .size < longestRecord ⌝ }
-{
-    // A session is large: it stays where the last call gave it back. Nobody reads the answer that stands there before the first call.
-    let before = run.session;
-    let mut called = Called {
-        answer: CallAnswer::Accepted(0),
-        session: before,
-    };
-    let mut record = run.record;
-    let mut size = run.size;
-    let mut lines = Lines {
-        number: run.number,
-        filled: 0,
-        goes_on: run.goes_on,
-    };
-    let mut next = 0;
-    while next < bytes.len() && lines.goes_on {
-        let end = size + 1;
-        record[size] = bytes[next];
-        next += 1;
-        match printing::script::record_in(&record[..end]) {
-            ScriptRecord::Call(call) => {
-                called = player::call(called.session, call, &mut *log);
-                let answer = called.answer;
-                lines = add_line(lines, answer, &*log, &mut *out);
-                size = 0;
-            }
-            ScriptRecord::Cut => size = end,
-            ScriptRecord::Wrong => lines = end_lines(lines, &*out),
-        }
-    }
-    let written = write_lines(lines, &*out);
-    let session = called.session;
+    let goes_on = is_written & !ran.ended;
+    let has_room = out.len() - filled >= 50 + 3 * log.len();
+    let session = ran.session;
     ScriptRun {
         session,
-        number: written.number,
-        record,
-        size,
-        goes_on: written.goes_on,
+        number: ran.number,
+        start: start + ran.used,
+        end,
+        is_cut: goes_on & has_room,
+        is_read: run.is_read,
+        goes_on,
     }
 }
 
-// ---- files
+// ---- the script
 
 fn read_script(fd: i32, part: &mut [u8]) -> isize {
     let got = libc::read(fd, part);
@@ -150,49 +81,85 @@ fn read_script(fd: i32, part: &mut [u8]) -> isize {
     got
 }
 
-// A script that ends inside a record.
-fn end_script(run: ScriptRun, got: isize) {
-    if got != 0 {
-        return;
+// The bytes from `start` to `end` go to the front of the slice. Answers how many they are.
+fn to_front(part: &mut [u8], start: usize, end: usize) -> usize
+    requires { ⌜ (start ≤ end) × (end ≤ length (now part)) ⌝ }
+    ensures { λ r. ⌜ r ≤ length (now (part .entry)) ⌝ }
+{
+    let size = end - start;
+    let mut next = 0;
+    while next < size {
+        let byte = part[start + next];
+        part[next] = byte;
+        next += 1;
     }
-    if run.goes_on {
-        if run.size > 0 {
-            print(b"script\n");
-        }
+    size
+}
+
+// Reads more bytes behind those that are held.
+fn read_on(mut run: ScriptRun, fd: i32, part: &mut [u8]) -> ScriptRun
+    requires { ⌜ Held run (length (now part)) ⌝ }
+    ensures { λ r. ⌜ Held r (length (now (part .entry))) ⌝ }
+{
+    let left = to_front(&mut *part, run.start, run.end);
+    let got = read_script(fd, &mut part[left..]);
+    let n = io::count(got, &part[left..]);
+    run.start = 0;
+    run.end = left + n;
+    run.is_read = got <= 0;
+    run.goes_on = got >= 0;
+    run
+}
+
+// The end of a script that was read: what is held is a cut record, or nothing.
+fn end_script(run: ScriptRun, part: &[u8], out: &mut [u8])
+    requires { ⌜ Held run (length (now part)) × (7 ≤ length (now out)) ⌝ }
+{
+    if run.goes_on & run.is_read {
+        let start = run.start;
+        let end = run.end;
+        let filled = script_run::finish(&part[start..end], &mut *out);
+        print(&out[..filled]);
     }
 }
 
-// The bytes of the script are in `part`, so many as `first` says, and in the file after those. A proved loop has to end, and nothing says that a file
-// does: the loop counts its turns down, from a number that no run uses up.
-fn run_parts(run: ScriptRun, fd: i32, part: &mut [u8], first: isize, log: &mut [u8], out: &mut [u8])
-    requires { ⌜ (50 + 3 * length (now log) ≤ length (now out)) × (run .size < longestRecord) ⌝ }
+// All lines are written before more of the script is read: whoever feeds it through a pipe sees the lines of what has been read.
+// A proved loop has to end, and nothing says that a file does: the loop counts its turns down, from a number that no run uses up.
+fn run_parts(run: ScriptRun, fd: i32, part: &mut [u8], log: &mut [u8], out: &mut [u8])
+    requires { ⌜ Held run (length (now part)) × (length (now log) ≡ 65_536) × (7 ≤ length (now out)) ⌝ }
 {
     let mut r = run;
-    let mut got = first;
     let mut turns = u64::MAX;
-    while turns > 0 && got > 0 && r.goes_on {
+    while turns > 0 && r.goes_on && !r.is_read {
         turns -= 1;
-        let n = io::count(got, &*part);
-        r = run_part(r, &part[..n], &mut *log, &mut *out);
-        if r.goes_on {
-            got = read_script(fd, &mut *part);
+        r = run_held(r, &*part, &mut *log, &mut *out);
+        if r.is_cut {
+            r = read_on(r, fd, &mut *part);
         }
     }
-    end_script(r, got)
+    end_script(r, &*part, out)
 }
 
-fn run_script(session: Session, fd: i32, part: &mut [u8], first: isize) {
+// The first bytes of the script are in `part`, so many as `first` says.
+fn run_script(session: Session, fd: i32, part: &mut [u8], first: isize)
+    requires { ⌜ broken session ≡ false ⌝ }
+{
     let mut log = [0u8; 65536];
     let mut out = [0u8; 262144];
+    let n = io::count(first, &*part);
     let run = ScriptRun {
         session,
-        number: 0,
-        record: [0; LONGEST_RECORD],
-        size: 0,
+        number: 1,
+        start: 0,
+        end: n,
+        is_cut: false,
+        is_read: first == 0,
         goes_on: true,
     };
-    run_parts(run, fd, part, first, &mut log, &mut out)
+    run_parts(run, fd, part, &mut log, &mut out)
 }
+
+// ---- files
 
 // The file's bytes, as many as fit; -1 if a read fails.
 fn read_start(fd: i32, bytes: &mut [u8]) -> isize {
@@ -225,8 +192,16 @@ fn read_document(document: &mut [u8]) -> isize {
     got
 }
 
-fn run_document(document: &[u8], fd: i32, part: &mut [u8], first: isize) {
-    let loaded = player::load(document);
+fn run_document(
+    document: &[u8; DECIDING_BYTES],
+    filled: usize,
+    fd: i32,
+    part: &mut [u8],
+    first: isize,
+)
+    requires { ⌜ filled ≤ length (now document) ⌝ }
+{
+    let loaded = document_front::load_front(document, filled);
     let answer = loaded.answer;
     match answer {
         LoadAnswer::Accepted => run_script(loaded.session, fd, part, first),
@@ -238,12 +213,9 @@ fn run_document(document: &[u8], fd: i32, part: &mut [u8], first: isize) {
     }
 }
 
-// The first bytes of both files are read before anything is printed. No document that loads is longer than 5,887 bytes:
-// the head (2 bytes), 64 nodes of 5, 128 anchors of 6, 32 properties of 5, 32 rules of 7, 64 binds of 4, 63 ports of 3,
-// 64 links of 6 and 512 actions of 7. So of a longer one the first faulty record begins at 5,887 at the latest, and within
-// 7 bytes more its bytes are all there: what load answers hangs on no byte after 5,894.
+// The first bytes of both files are read before anything is printed.
 fn main() {
-    let mut document = [0u8; 5895];
+    let mut document = [0u8; DECIDING_BYTES];
     let got = read_document(&mut document);
     if got < 0 {
         return;
@@ -259,6 +231,6 @@ fn main() {
         return;
     }
     let n = io::count(got, &document);
-    run_document(&document[..n], fd, &mut part, first);
+    run_document(&document, n, fd, &mut part, first);
     libc::close(fd);
 }

@@ -122,6 +122,15 @@ pub fn call_line(out: &mut [u8], number: u64, answer: CallAnswer, log: &[u8]) ->
     }
 }
 
+// The line of a wrong or cut record of a script. Answers its length.
+pub fn script_line(out: &mut [u8]) -> usize
+    requires { ⌜ 7 ≤ length (now out) ⌝ }
+    ensures { λ r. ⌜ Printed (text "script\n") (now (out .exit)) r ⌝ }
+{
+    let word_end = put_text(&mut *out, 0, b"script");
+    put(out, word_end, b'\n')
+}
+
 // The line of a document that is refused. Answers the line's length.
 pub fn document_line(out: &mut [u8], refusal: Refusal) -> usize
     requires { ⌜ 8 ≤ length (now out) ⌝ }

@@ -11,9 +11,6 @@ ghost use Rattle.printing.specs.Script.{scriptRecord};
 // The length of a record after its kind, by the kind.
 const LENGTHS: [u8; 4] = [0, 6, 1, 0];
 
-// The bytes of the longest record.
-pub const LONGEST_RECORD: usize = 7;
-
 // What stands at the front of some bytes of a script. Cut: there is no whole record yet, and more bytes may make one.
 // Wrong: no record begins there, whatever follows.
 pub enum ScriptRecord {

@@ -1,48 +1,59 @@
 -- `printed_run::run_parts` meets its contract. Assumes nothing.
 use native.Mathlib.Omega.{arith}
 use mathlib.Core.Path.{_≡_, refl, _∙_}
-use Prim.Native.Nat.{_<_}
-use Rattle.machine.specs.PrintedRun.{longestRecord}
-use borrow.Author.Needs.{needs}
 use lib.ListN.{length}
+use Rattle.printed_run.specs.Held.{Held}
+use borrow.Author.Needs.{needs}
 use Rattle.printed_run.proofs.run_parts.Statement.{statement}
 use Rattle.printed_run.proofs.run_parts.Tie as tie
 
 abbrev Inv-loop : tie.InvT-loop
-Inv-loop fd part₀ first log₀ out₀ r₀ got₀ turns₀ part log out r got turns = (length part ≡ length part₀) × (length log ≡ length log₀) × (length out ≡ length out₀) × (r .size < longestRecord)
+Inv-loop fd part₀ log₀ out₀ r₀ turns₀ part log out r turns = (length part ≡ length part₀) × (length log ≡ length log₀) × (length out ≡ length out₀) × Held r (length part)
 
 abbrev μ-loop : tie.MeasureT-loop
-μ-loop fd part₀ first log₀ out₀ r₀ got₀ turns₀ part log out r got turns = turns
+μ-loop fd part₀ log₀ out₀ r₀ turns₀ part log out r turns = turns
 
 pub run-parts-spec : {M : Type 1} → statement M
 run-parts-spec =
     tie.close
     (tie.spec
     Inv-loop μ-loop
-    (λ c. (refl, refl, refl, c .before .before .before .pre .1))  -- loop-holds
+    (λ c. (refl, refl, refl, c .before .before .before .pre .0))  -- loop-holds
     (λ c. search needs)  -- sub-turns
-    (λ c κs. search needs)  -- count-requires
-    (λ c. search needs)  -- slice-reshare-prefix-run-part
-    (λ c. search needs)  -- slice-aggregate-run-part
     (λ c κs.
-    let the-entry = c .before .before .before .before .before .before .before .before .before .before .before .before in
-    let the-loop = c .before .before .before .before .before .before .before .before .loop in
-    (omega (arith, the-entry .pre, the-loop .inv), the-loop .inv .3))  -- run-part-requires
-    (λ c κs. search needs)  -- read-script-requires
-    (λ c. search needs)  -- loop-less
+    let the-loop = c .before .before .before .before .before .before .before .loop in
+    let the-entry = c .before .before .before .before .before .before .before .before .before .before .before in
+    (the-loop .inv .3, the-loop .inv .1 ∙ the-entry .pre .1))  -- run-held-requires
+    (λ c κs.
+    let the-run-held = c .before .before .before .before .before .before .run-held in
+    the-run-held .ensures)  -- read-on-requires
     (λ c.
-    let the-read-script = c .before .before .read-script in
-    let the-loop = c .before .before .before .before .before .before .before .before .before .before .before .before .before .before .before .before .before .before .loop in
-    let the-run-part = c .before .before .before .before .before .before .before .before .before .run-part in
-    (the-read-script .kept .1 .0 ∙ the-loop .inv .0, the-run-part .kept .1 .1 .0 ∙ the-loop .inv .1, the-run-part .kept .1 .1 .1 .0 ∙ the-loop .inv .2, the-run-part .ensures))  -- loop-again
-    (λ c. search needs)  -- loop-less-2
+    let the-loop-test = c .before .before .before .before .before .before .before .before .before .before .before .before .before .before .before .before .loop-test in
+    omega (arith, the-loop-test .taken))  -- loop-less
     (λ c.
-    let the-loop = c .before .before .before .before .before .before .before .before .before .before .before .before .before .before .loop in
-    let the-run-part = c .before .before .before .before .before .run-part in
-    (the-loop .inv .0, the-run-part .kept .1 .1 .0 ∙ the-loop .inv .1, the-run-part .kept .1 .1 .1 .0 ∙ the-loop .inv .2, the-run-part .ensures))  -- loop-again-2
-    (λ c κs. search needs)  -- end-script-requires
-    (λ c. c .before .before .loop .inv .0)  -- same-length
-    (λ c. c .before .before .loop .inv .1)  -- same-length-2
-    (λ c. c .before .before .loop .inv .2)  -- same-length-3
+    let the-read-on = c .before .before .read-on in
+    let the-loop = c .before .before .before .before .before .before .before .before .before .before .before .before .before .before .before .before .before .loop in
+    let the-run-held = c .before .before .before .before .before .before .before .before .before .run-held in
+    (the-read-on .kept .1 .1 .0 ∙ the-loop .inv .0, the-run-held .kept .1 .1 .0 ∙ the-loop .inv .1, the-run-held .kept .1 .1 .1 .0 ∙ the-loop .inv .2, rw (the-read-on .kept .1 .1 .0) (the-read-on .ensures)))  -- loop-again
+    (λ c.
+    let the-loop-test = c .before .before .before .before .before .before .before .before .before .before .before .before .loop-test in
+    omega (arith, the-loop-test .taken))  -- loop-less-2
+    (λ c.
+    let the-loop = c .before .before .before .before .before .before .before .before .before .before .before .before .before .loop in
+    let the-run-held = c .before .before .before .before .before .run-held in
+    (the-loop .inv .0, the-run-held .kept .1 .1 .0 ∙ the-loop .inv .1, the-run-held .kept .1 .1 .1 .0 ∙ the-loop .inv .2, the-run-held .ensures))  -- loop-again-2
+    (λ c κs.
+    let the-loop = c .before .before .before .loop in
+    let the-entry = c .before .before .before .before .before .before .before in
+    (the-loop .inv .3, omega (arith, the-loop .inv .2, the-entry .pre)))  -- end-script-requires
+    (λ c.
+    let the-loop = c .before .before .before .before .before .before .loop in
+    the-loop .inv .0)  -- same-length
+    (λ c.
+    let the-loop = c .before .before .before .before .before .before .loop in
+    the-loop .inv .1)  -- same-length-2
+    (λ c.
+    let the-loop = c .before .before .before .before .before .before .loop in
+    c .before .before .end-script .kept .1 .1 .0 ∙ the-loop .inv .2)  -- same-length-3
     (λ c. search needs)  -- returns
     )

@@ -1,0 +1,23 @@
+-- `printed_run::run_document` meets its contract. Assumes nothing.
+use Rattle.printed_run.proofs.Loads.{taken, loaded-unbroken}
+use borrow.Author.Needs.{needs}
+use Rattle.printed_run.proofs.run_document.Statement.{statement}
+use Rattle.printed_run.proofs.run_document.Tie as tie
+
+pub run-document-spec : {M : Type 1} → statement M
+run-document-spec =
+    tie.close
+    (tie.spec
+    (λ c κs. search needs)  -- load-front-requires
+    (λ c. search needs)  -- enum-told
+    (λ c κs. loaded-unbroken _ _ (c .before .before .before .load-front .ensures _ (taken (c .before .before .before .before .before .args .document .now) (c .before .before .before .before .before .args .filled))) (c .before .enum-told .given .1))  -- run-script-requires
+    (λ c. search needs)  -- enum-known-answer
+    (λ c. search needs)  -- slice-aggregate-document-line
+    (λ c κs. search needs)  -- document-line-requires
+    (λ c. search needs)  -- array-share-prefix-line
+    (λ c. search needs)  -- slice-aggregate-print
+    (λ c κs. search needs)  -- print-requires
+    (λ c. search needs)  -- same-length
+    (λ c. search needs)  -- returns
+    (λ c. search needs)  -- returns-2
+    )

@@ -139,6 +139,22 @@ pub fn stop_after_lines(lines: usize) -> Vec<u8> {
     document_of(&records)
 }
 
+/// One link on key 0 sets property 0 eight times, and so many links hear each stop of it, with these
+/// actions.
+fn links_on_eight_sets(hearing: usize, actions: &[Record]) -> Vec<Record> {
+    let mut records = link_with(&[Record::Action { action: 6, target: 0, value: 1 }], MOST_ACTIONS);
+    for _ in 0..hearing {
+        records.push(link_on(3, 0, 2));
+        records.extend(actions);
+    }
+    records
+}
+
+/// Four starts and four stops of a node, by turns.
+fn starts_and_stops(target: u8) -> [Record; MOST_ACTIONS] {
+    [1, 2, 1, 2, 1, 2, 1, 2].map(|action| Record::Action { action, target, value: 0 })
+}
+
 /// The lines that key 0 logs in the report of many firings: the key's, the firings', two of each
 /// set, and 7 of each start and stop.
 pub const LINES_OF_MANY_FIRINGS: usize = 1 + 255 + 8 * 2 + 31 * 8 * 8 * 7;
@@ -149,13 +165,7 @@ pub fn many_firings(limit: u8) -> Vec<u8> {
     records.push(Record::Node { node_type: 1, parent: 0, duration: 0 });
     records.push(Record::Property { value: 0 });
     records.extend([Record::Anchor { media: 1, begin: 0, end: 9 }; 5]);
-    records.extend(link_with(&[Record::Action { action: 6, target: 0, value: 1 }], MOST_ACTIONS));
-    for _ in 0..31 {
-        records.push(link_on(3, 0, 2));
-        for action in [1, 2, 1, 2, 1, 2, 1, 2] {
-            records.push(Record::Action { action, target: 1, value: 0 });
-        }
-    }
+    records.extend(links_on_eight_sets(31, &starts_and_stops(1)));
     records.extend([link_on(4, 0, 1); 6]);
     document_of(&records)
 }
@@ -251,4 +261,138 @@ pub fn start_stop_report() -> Vec<u8> {
 /// So many starts and stops of node 0, by turns.
 pub fn start_stop_script(times: usize) -> Vec<u8> {
     script_of(&[START, STOP]).repeat(times)
+}
+
+/// Media of a context, each started by a port.
+fn media_with_ports(media: u8) -> Vec<Record> {
+    let node = Record::Node { node_type: 1, parent: 0, duration: 0 };
+    (1..=media).flat_map(|child| [node, Record::Port { context: 0, child }]).collect()
+}
+
+/// A simple rule that holds where the property has the value, and 31 composite rules, each of the
+/// one before it, twice: rule 31 is 31 deep.
+fn deep_rules(property: u8, value: i32) -> Vec<Record> {
+    let composite = |rule| {
+        let (operator, earlier) = (rule % 2, rule - 1);
+        Record::CompositeRule { operator, left: earlier, right: earlier }
+    };
+    let mut records = vec![Record::Rule { property, comparator: 0, value }];
+    records.extend((1..MOST_RULES as u8).map(composite));
+    records
+}
+
+/// The firings of key 0 where 31 links hear eight sets.
+pub const FIRINGS_ON_EIGHT_SETS: usize = 1 + 31 * 8;
+
+/// The lines of the key, of these firings and of the eight sets.
+const LINES_ON_EIGHT_SETS: usize = 1 + FIRINGS_ON_EIGHT_SETS + 8 * 2;
+
+/// The actions of the links that hear: 1,984.
+const ACTIONS_ON_EIGHT_SETS: usize = 31 * 8 * MOST_ACTIONS;
+
+/// Key 0 starts a switch 1,984 times. All of its 64 binds are on a rule 31 deep that does not hold,
+/// and it has no default, so nothing starts.
+pub fn switch_starts() -> Vec<u8> {
+    let mut records = head_and_context(255);
+    records.push(Record::Node { node_type: 2, parent: 0, duration: 0 });
+    records.push(Record::Node { node_type: 1, parent: 1, duration: 0 });
+    records.extend([Record::Property { value: 0 }; 3]);
+    records.extend(deep_rules(2, 1));
+    records.extend([Record::Bind { switch: 1, child: 2, rule: 31 }; MOST_BINDS]);
+    let start = Record::Action { action: 1, target: 1, value: 0 };
+    records.extend(links_on_eight_sets(31, &[start; MOST_ACTIONS]));
+    document_of(&records)
+}
+
+pub const LINES_OF_SWITCH_STARTS: usize = LINES_ON_EIGHT_SETS;
+
+/// Key 0 sets property 1 1,984 times; 32 links hear each stop of it, with a guard 31 deep that does
+/// not hold: 63,488 guards.
+pub fn deep_guards() -> Vec<u8> {
+    let mut records = head_and_context(255);
+    records.extend([Record::Property { value: 0 }; 3]);
+    records.extend(deep_rules(2, 1));
+    let set = Record::Action { action: 6, target: 1, value: 1 };
+    records.extend(links_on_eight_sets(31, &[set; MOST_ACTIONS]));
+    let guarded = Record::Link { owner: 0, class: 3, subject: 1, transition: 2, guard: 31 };
+    records.extend([guarded; 32]);
+    document_of(&records)
+}
+
+pub const LINES_OF_DEEP_GUARDS: usize = LINES_ON_EIGHT_SETS + 2 * ACTIONS_ON_EIGHT_SETS;
+
+/// Key 0 starts and stops a context of 63 media, 992 times each.
+pub fn media_starts_and_stops(limit: u8) -> Vec<u8> {
+    let mut records = head_and_context(limit);
+    records.extend(media_with_ports(63));
+    records.push(Record::Property { value: 0 });
+    records.extend(links_on_eight_sets(31, &starts_and_stops(0)));
+    document_of(&records)
+}
+
+/// Each start and each stop logs 63 media and the context.
+pub const LINES_OF_MEDIA_STARTS_AND_STOPS: usize = LINES_ON_EIGHT_SETS + 64 * ACTIONS_ON_EIGHT_SETS;
+
+/// What a report has, and how many times key 0 fires in it.
+#[derive(Clone, Copy)]
+pub struct Size {
+    pub media: u8,
+    pub anchors: u8,
+    pub links: usize,
+    pub firings: usize,
+}
+
+/// Every anchor begins with its media. Links that key 0 does not need hear key 1.
+pub fn report_of_size(size: Size) -> Vec<u8> {
+    let mut records = head_and_context(255);
+    records.extend(media_with_ports(size.media));
+    for anchor in 0..size.anchors {
+        records.push(Record::Anchor { media: 1 + anchor % size.media, begin: 0, end: 9 });
+    }
+    records.push(Record::Property { value: 0 });
+    let mut idle = size.links;
+    if let Some(others) = size.firings.checked_sub(1) {
+        let (hearing, on_key) = (others / 8, others % 8);
+        records.extend(links_on_eight_sets(hearing, &[]));
+        records.extend(vec![link_on(4, 0, 1); on_key]);
+        idle -= 1 + hearing + on_key;
+    }
+    records.extend(vec![link_on(4, 1, 1); idle]);
+    document_of(&records)
+}
+
+/// So many turns of a start of node 0, key 0 and a stop.
+pub fn script_of_turns(turns: usize) -> Vec<u8> {
+    script_of(&[START, Call::Key { code: 0 }, STOP]).repeat(turns)
+}
+
+/// The lines of one turn: twice the context, its media and their anchors, and those of key 0.
+pub fn lines_of_turn(size: Size) -> usize {
+    let sets = if size.firings > 0 { 8 * 2 } else { 0 };
+    2 * (1 + usize::from(size.media) + usize::from(size.anchors)) + 1 + size.firings + sets
+}
+/// 63 composites in one another, of these types by turns, with a media in the innermost: its anchor
+/// begins at once, and a link on its start sets a property. A switch finds its child by a rule that
+/// is as deep as rules can be.
+pub fn nested_report(types: [u8; 2]) -> Vec<u8> {
+    let composites = (MOST_NODES - 1) as u8;
+    let type_of = |node: u8| if node == 0 { 0 } else { types[usize::from(node % 2)] };
+    let mut records = vec![Record::Head { limit: 255 }];
+    for node in 0..composites {
+        let parent = node.checked_sub(1).unwrap_or(255);
+        records.push(Record::Node { node_type: type_of(node), parent, duration: 0 });
+    }
+    records.push(Record::Node { node_type: 1, parent: composites - 1, duration: 3 });
+    records.push(Record::Anchor { media: composites, begin: 0, end: 2 });
+    records.push(Record::Property { value: 7 });
+    records.extend(deep_rules(0, 7));
+    for node in 0..composites {
+        records.push(match type_of(node) {
+            0 => Record::Port { context: node, child: node + 1 },
+            _ => Record::Bind { switch: node, child: node + 1, rule: 31 },
+        });
+    }
+    records.push(link_on(2, 0, 1));
+    records.push(Record::Action { action: 6, target: 0, value: 7 });
+    document_of(&records)
 }

@@ -112,7 +112,7 @@ fn wrong_in_text(text: &str, sources: &Sources) -> Vec<String> {
         .collect()
 }
 
-/// Whether an edit is there, as `events/awake_at_end`; a test of the second engine, as `load.rs/ports`; an entry of
+/// Whether an edit is there, as `transitions/awake_at_end`; a test of the second engine, as `load.rs/ports`; an entry of
 /// the list of examples, as `E4`. Of other words nothing is said.
 fn is_there(word: &str, sources: &Sources) -> Option<bool> {
     if let Some(number) = word.strip_prefix('E').and_then(|number| number.parse().ok()) {
@@ -136,7 +136,7 @@ fn examples() -> usize {
         .count()
 }
 
-/// The file of an edit that is named as `events/awake_at_end`.
+/// The file of an edit that is named as `transitions/awake_at_end`.
 pub fn edit_file(edit: &str) -> PathBuf {
     let (name, edit) = edit.split_once('/').expect("a crate and an edit");
     Path::new("crates").join(name).join("must-fail").join(format!("{edit}.edit"))

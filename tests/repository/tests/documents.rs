@@ -40,10 +40,10 @@ fn every_name_names_something() {
 fn a_name_of_nothing_is_found() {
     let sources = Sources::read();
     for name in [
-        "`events::starting::found_bind`", // it is in another module
-        "`events::starting::bind_start`", // used there and declared elsewhere
+        "`starting::reaching::found_children`", // it is in another module
+        "`events::acting::media_of_start`",     // used there and declared elsewhere
         "`events::settling_twice`",
-        "`starting::found_bind`",
+        "`starting::found_children`",
         "`CallAnswer::NoSuchCase`",
         "`machine::CallAnswer::NoSuchCase`",
         "`player::CallAnswer::Accepted`", // a type of another crate
@@ -83,7 +83,7 @@ fn a_proof_that_is_not_there_is_found() {
         "",
         "player:",
         "player: load",
-        "events: changes",
+        "transitions: node",
         "events: None.antt",
         "player: `call` by itself",
     ] {
@@ -115,11 +115,11 @@ fn contracts_cite_the_definitions_of_their_row() {
 fn a_contract_that_cites_something_else_is_found() {
     let sources = Sources::read();
     for (definition, contract, wrong) in [
-        ("`Events.counted`", "`events::changes::count_after`", 0),
+        ("`Events.counted`", "`transitions::node::count_after`", 0),
         ("`Events.counted`", "`player::tick`", 0), // through what it is built from
-        ("`Events.clocked`", "`events::changes::count_after`", 2),
-        ("`Events.counted`, `clocked`", "`events::changes::count_after`", 1),
-        ("`Events.counted`", "`events::changes::count_after`, `transition_of`", 1),
+        ("`Events.clocked`", "`transitions::node::count_after`", 2),
+        ("`Events.counted`, `clocked`", "`transitions::node::count_after`", 1),
+        ("`Events.counted`", "`transitions::node::count_after`, `transition_of`", 1),
     ] {
         let table = format!("| definition | contract |\n|---|---|\n| {definition} | {contract} |");
         assert_eq!(uncited(&rows(&table)[0], &sources).len(), wrong, "{definition}, {contract}");

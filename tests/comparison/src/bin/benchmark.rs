@@ -1,7 +1,8 @@
 //! Times of both engines on the same documents and scripts, as ratios from one run: first the
 //! program `printed_run` and the second engine as a program, on files; then the player and the
 //! second engine in this process, where all lend one log slice for the whole script and its lines
-//! are summed up after each call.
+//! are summed up after each call. Then the slowest calls that were found, and how the time of a call
+//! grows with the document and with its firings.
 //!
 //! With the arguments `second FOLDER` it is the second engine as a program.
 
@@ -14,10 +15,15 @@ use std::{env, io};
 
 use comparison::player;
 use comparison::printed::{program, Folder};
-use comparison::reports::{start_stop_report, start_stop_script, wide_report, wide_script};
+use comparison::reports::{
+    deep_guards, lines_of_turn, media_starts_and_stops, report_of_size, script_of_turns,
+    start_stop_report, start_stop_script, switch_starts, wide_report, wide_script, Size,
+    FIRINGS_ON_EIGHT_SETS, LINES_OF_DEEP_GUARDS, LINES_OF_MEDIA_STARTS_AND_STOPS,
+    LINES_OF_SWITCH_STARTS,
+};
 use second_engine::fields::Fields;
 use second_engine::printed::lines_of;
-use second_engine::{load, printed_run, Call, WrittenSession};
+use second_engine::{load, printed_run, Call, Refusal, WrittenSession};
 
 const LOG_LENGTH: usize = 8_192;
 const ROUNDS: usize = 5;
@@ -114,7 +120,7 @@ fn run_second_checked(document: &[u8], calls: &[Call]) -> u64 {
     run(calls, |call, log| session.call(call, log))
 }
 
-fn timed(run: impl FnOnce() -> u64) -> (Duration, u64) {
+fn timed<T>(run: impl FnOnce() -> T) -> (Duration, T) {
     let start = Instant::now();
     let answer = run();
     (start.elapsed(), answer)
@@ -139,10 +145,17 @@ fn engine_times<const RUNS: usize>(
     best
 }
 
+fn micros(time: Duration) -> f64 {
+    time.as_secs_f64() * 1e6
+}
+
+fn ratio(time: Duration, other: Duration) -> f64 {
+    time.as_secs_f64() / other.as_secs_f64()
+}
+
 fn compare(name: &str, document: &[u8], script: &[u8]) {
     let calls = calls_of(script);
-    let micros = |time: Duration| time.as_secs_f64() * 1e6 / calls.len() as f64;
-    let ratio = |time: Duration, other: Duration| time.as_secs_f64() / other.as_secs_f64();
+    let micros = |time| micros(time) / calls.len() as f64;
     let [program, second_program] = program_times(document, script);
     println!(
         "{name}, as programs on files: printed_run {:.2} µs a call, second engine {:.2} µs a call; \
@@ -201,12 +214,135 @@ fn read_time(document: &[u8], calls: &[Call]) -> Duration {
     reads.iter().map(|&(time, _)| time).min().expect("there are rounds") / TIMES
 }
 
+/// Makes a call on the document's new session; the time of the call alone, and its answer.
+type MakeCall = fn(&[u8], Call, &mut [u8]) -> (Duration, player::Answer);
+
+fn call_player(document: &[u8], call: Call, log: &mut [u8]) -> (Duration, player::Answer) {
+    let (mut session, _) = player::Session::load(document);
+    timed(|| session.call(call, log))
+}
+
+/// The second engine on its own session, which it does not check.
+fn call_second(document: &[u8], call: Call, log: &mut [u8]) -> (Duration, player::Answer) {
+    let mut session = load(document).expect("the document loads");
+    timed(|| session.call(call, log).map_err(Refusal::number))
+}
+
+/// The second engine on a written session, which it checks as the player does.
+fn call_second_checked(document: &[u8], call: Call, log: &mut [u8]) -> (Duration, player::Answer) {
+    let (mut session, _) = WrittenSession::load(document);
+    timed(|| session.call(call, log).map_err(Refusal::number))
+}
+
+/// What the player and the second engine take, checked and not, with the ratios.
+fn times_and_ratios([player, second, checked]: [Duration; 3], calls: usize) -> String {
+    let micros = |time| micros(time) / calls as f64;
+    format!(
+        "player {:.2} µs, second engine {:.2} µs, checked {:.2} µs; player / second = {:.2}, \
+         checked {:.2}",
+        micros(player),
+        micros(second),
+        micros(checked),
+        ratio(player, second),
+        ratio(player, checked)
+    )
+}
+
+/// Makes one call of key 0 on all engines, by turns, with room for so many lines, and sees that it
+/// answers this and logs as many lines; the best of some rounds each.
+fn compare_call(name: &str, document: &[u8], room: usize, expected: (player::Answer, usize)) {
+    const ENGINES: [MakeCall; 3] = [call_player, call_second, call_second_checked];
+    let mut best = [Duration::MAX; 3];
+    let mut logs = [(); 3].map(|()| vec![0; 4 * room]);
+    for _ in 0..ROUNDS {
+        for (place, make_call) in ENGINES.iter().enumerate() {
+            let log = &mut logs[place];
+            let (time, answer) = make_call(document, Call::Key { code: 0 }, log);
+            best[place] = best[place].min(time);
+            assert_eq!((answer, lines_of(log).len()), expected, "{name}");
+        }
+    }
+    assert!(logs.iter().all(|log| *log == logs[0]), "{name}: the logs differ");
+    println!("  {name}: {}", times_and_ratios(best, 1));
+}
+
+/// The slowest calls that were found.
+fn compare_slow_calls() {
+    println!("slow calls, one each, in one process:");
+    let fired = |lines| (Ok(FIRINGS_ON_EIGHT_SETS), lines);
+    compare_call(
+        "1,984 starts of a switch with 64 binds on a rule 31 deep",
+        &switch_starts(),
+        LINES_OF_SWITCH_STARTS,
+        fired(LINES_OF_SWITCH_STARTS),
+    );
+    compare_call(
+        "63,488 guards 31 deep",
+        &deep_guards(),
+        LINES_OF_DEEP_GUARDS,
+        fired(LINES_OF_DEEP_GUARDS),
+    );
+    let (name, lines) =
+        ("249 firings, 248 of 8 starts and stops of 63 media", LINES_OF_MEDIA_STARTS_AND_STOPS);
+    let document = media_starts_and_stops(255);
+    compare_call(name, &document, lines, fired(lines));
+    compare_call(
+        &format!("{name}, refused 12 at the last line"),
+        &document,
+        lines - 1,
+        (Err(12), 0),
+    );
+    compare_call(&format!("{name}, refused 12 early"), &document, 512, (Err(12), 0));
+    compare_call(
+        &format!("{name}, refused 11 at the second firing"),
+        &media_starts_and_stops(1),
+        lines,
+        (Err(11), 0),
+    );
+}
+
+/// Starts, keys and stops by turns on a report of this size, on all engines.
+fn compare_size(name: &str, number: usize, size: Size) {
+    const TURNS: usize = 1_000;
+    let document = report_of_size(size);
+    let calls = calls_of(&script_of_turns(TURNS));
+    let logged = lines_and_firings(&document, &calls);
+    assert_eq!(logged, (TURNS * lines_of_turn(size), TURNS * size.firings), "{name} {number}");
+    let times = engine_times([run_player, run_second, run_second_checked], &document, &calls);
+    println!("  {name:8} {number:3}: {}", times_and_ratios(times, calls.len()));
+}
+
+/// One number of a report varies at a time.
+fn compare_sizes() {
+    // 255 firings need 38 links.
+    let size = Size { media: 32, anchors: 32, links: 38, firings: 0 };
+    println!(
+        "growth, in one process: starts, keys and stops by turns, with {} media, {} anchors, \
+         {} links and {} firings of the key but for",
+        size.media, size.anchors, size.links, size.firings
+    );
+    for media in [1, 16, 32, 63] {
+        compare_size("media", media.into(), Size { media, ..size });
+    }
+    for anchors in [0, 32, 64, 128] {
+        compare_size("anchors", anchors.into(), Size { anchors, ..size });
+    }
+    for links in [0, 16, 32, 64] {
+        compare_size("links", links, Size { links, ..size });
+    }
+    for firings in [0, 16, 64, 255] {
+        compare_size("firings", firings, Size { firings, ..size });
+    }
+}
+
 fn main() {
     let arguments: Vec<_> = env::args_os().skip(1).collect();
     match &arguments[..] {
         [] => {
             compare("wide report", &wide_report(), &wide_script(50_000));
             compare("start and stop", &start_stop_report(), &start_stop_script(20_000));
+            compare_slow_calls();
+            compare_sizes();
         }
         [which, folder] if which == "second" => print_second(Path::new(folder)),
         _ => panic!("no arguments, or `second` and a folder"),

@@ -1,4 +1,4 @@
--- What is known of the tables of a session that is not broken. Functions inside the engine require it; those that outsiders call require nothing.
+-- What is known of the tables of a session that is not broken. The functions that run a call require it; those of `player` require nothing.
 use Prim.Native.Nat.{ℕ, _<_, _≤_}
 use mathlib.Core.Bool.{true, false}
 use mathlib.Core.Path.{_≡_}

@@ -4,10 +4,8 @@ use super::settling::settle;
 use log::emit;
 use machine::Document;
 use machine::terms;
-use transitions::anchors::Moving;
 use transitions::anchors::due_media;
-use transitions::anchors::move_anchors;
-use transitions::media::move_media;
+use transitions::media::pass_media;
 ghost use mathlib.Core.Path.{_≡_};
 ghost use Rattle.base.specs.Loops.{ascending};
 ghost use Rattle.machine.specs.Tick.{tickedOne, ticked, keyed};
@@ -41,54 +39,24 @@ fn advance_all(d: Document, w: Work, log: &mut [u8]) -> Work
     let mut anchor_states = w.anchor_states;
     let mut anchor_counts = w.anchor_counts;
     let mut written = w.written;
-    let ending = due_media(d.anchors.count, &d.anchors.media, &d.anchors.ends, &clocks);
-    let beginning = due_media(
+    let due = due_media(
         d.anchors.count,
         &d.anchors.media,
         &d.anchors.begins,
+        &d.anchors.ends,
         &clocks,
     );
     let end = nodes.count;
-    let mut n = 0;
-    while n < end {
+    let mut next = 0;
+    while next < end {
+        let n = next;
+        next += 1;
         let clock = clocks[n];
         if advances(nodes.types[n], states[n], clock) {
+            let duration = nodes.durations[n];
             let now = clock + 1;
-            clocks[n] = now;
-            if ending[n] {
-                written = move_anchors(
-                    d.anchors.count,
-                    &d.anchors.media,
-                    &d.anchors.begins,
-                    &d.anchors.ends,
-                    &mut anchor_states,
-                    &mut anchor_counts,
-                    &mut *log,
-                    written,
-                    Moving::EndingAt(now),
-                    false,
-                    n,
-                    terms::SLEEPING,
-                );
-            }
-            if beginning[n] {
-                written = move_anchors(
-                    d.anchors.count,
-                    &d.anchors.media,
-                    &d.anchors.begins,
-                    &d.anchors.ends,
-                    &mut anchor_states,
-                    &mut anchor_counts,
-                    &mut *log,
-                    written,
-                    Moving::BeginningAt(now),
-                    false,
-                    n,
-                    terms::OCCURRING,
-                );
-            }
-            if nodes.durations[n] == now {
-                written = move_media(
+            if due[n] | (duration == now) {
+                written = pass_media(
                     d.anchors.count,
                     &d.anchors.media,
                     &d.anchors.begins,
@@ -100,12 +68,14 @@ fn advance_all(d: Document, w: Work, log: &mut [u8]) -> Work
                     &mut anchor_counts,
                     &mut *log,
                     written,
-                    terms::TO_STOP,
                     n,
+                    duration,
+                    now,
                 );
+            } else {
+                clocks[n] = now;
             }
         }
-        n += 1;
     }
     let mut t = w;
     t.node_states = states;

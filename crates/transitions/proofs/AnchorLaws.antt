@@ -11,7 +11,7 @@ use Rattle.machine.specs.Terms.{noTransition}
 use Rattle.machine.specs.Tables.{anchorAt}
 use Rattle.machine.specs.Events.{Run, anchorState, transition, anchorTo, anchorChanged, anchorMoved}
 use Rattle.machine.specs.declared.Anchors.{Anchors}
-use Rattle.transitions.specs.Moves.{dueNext}
+use Rattle.transitions.specs.Moves.{dueAt, dueNext}
 
 -- an anchor that does not move has no transition
 changed-if : (b aborting : Bool) (a new : ℕ) (r : Run)
@@ -27,9 +27,10 @@ pub anchor-moved : (anchors : Anchors) (moves : ℕ → ℕ → ℕ → Bool) (a
 unfolding anchorMoved
 anchor-moved anchors moves aborting n new a r change e p = p ∙ rw e (sym (changed-if _ aborting a new r))
 
--- one anchor more is looked at, for the media whose next clock is its time
-pub marked-due : (medias times clocks : List ℕ) (a m : ℕ) (marks : List Bool) (is-due : Bool) → m < 256 → m ≡ getD medias a 0 → is-due ≡ (getD times a 0 =? getD clocks m 0 + 1)
-    → Marked (dueNext medias times clocks) a marks → Marked (dueNext medias times clocks) (a + 1) (set marks m (getD marks m false || is-due))
-unfolding dueNext
-marked-due medias times clocks a m marks is-due h e p k =
+-- one anchor more is looked at
+pub marked-due : (anchors : Anchors) (clocks : List ℕ) (a m : ℕ) (marks : List Bool) (is-due : Bool) → m < 256 → m ≡ anchorAt anchors a .media
+    → is-due ≡ (anchorAt anchors a .end =? getD clocks m 0 + 1 || anchorAt anchors a .begin =? getD clocks m 0 + 1)
+    → Marked (dueNext anchors clocks) a marks → Marked (dueNext anchors clocks) (a + 1) (set marks m (getD marks m false || is-due))
+unfolding dueAt dueNext
+marked-due anchors clocks a m marks is-due h e p k =
     marked-more _ a m marks is-due _ h (λ n. rw (p, ← e) (by-test (m =? n) (λ q. rw (q, eqb-true m n q)) (λ q. rw q))) refl k

@@ -1,10 +1,12 @@
 -- Which anchors of a media move.
-use mathlib.Core.Bool.{Bool, _&&_}
+use mathlib.Core.Bool.{Bool, _&&_, _||_}
 use mathlib.Core.List.{List}
 use Prim.Native.Nat.{ℕ, _+_}
 use lib.ListN.{getD}
 use Rattle.base.specs.Tests.{_=?_}
+use Rattle.machine.specs.Tables.{anchorAt}
 use Rattle.machine.specs.Events.{beginsAt, endsAt, isAwake}
+use Rattle.machine.specs.declared.Anchors.{Anchors}
 use Rattle.transitions.specs.declared.anchors.Moving.{Moving}
 use Rattle.transitions.specs.declared.anchors.Moving.the-variants.{BeginningAt, EndingAt, Awake}
 
@@ -13,6 +15,12 @@ moves (BeginningAt clock) = beginsAt clock
 moves (EndingAt clock) = endsAt clock
 moves Awake = isAwake
 
--- anchor a is one of media n, and its time comes with the next clock of n; the time is the anchor's begin or its end
-unfoldable pub dueNext : List ℕ → List ℕ → List ℕ → ℕ → ℕ → Bool
-dueNext medias times clocks n a = getD medias a 0 =? n && getD times a 0 =? getD clocks n 0 + 1
+-- anchor a is one of media n, and ends or begins at the clock
+unfoldable pub dueAt : Anchors → ℕ → ℕ → ℕ → Bool
+dueAt anchors n clock a =
+    let anchor = anchorAt anchors a in
+    anchor .media =? n && (anchor .end =? clock || anchor .begin =? clock)
+
+-- the same, at the next clock of n
+unfoldable pub dueNext : Anchors → List ℕ → ℕ → ℕ → Bool
+dueNext anchors clocks n = dueAt anchors n (getD clocks n 0 + 1)

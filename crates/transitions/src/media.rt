@@ -8,7 +8,10 @@ use records::tables::next_state;
 ghost use mathlib.Core.Path.{_≡_};
 ghost use Prim.Native.Nat.{_<_, _≤_};
 ghost use Rattle.machine.specs.Terms.{toStart, toResume};
+ghost use Rattle.machine.specs.Tables.{durationOf};
 ghost use Rattle.machine.specs.Events.{follows, lineFirst, mediaMoved};
+ghost use Rattle.machine.specs.Tick.{passed};
+ghost use Rattle.machine.specs.declared.Document.{Document};
 ghost use Rattle.log.specs.LogSlice.{logOf};
 ghost use Rattle.transitions.specs.Lent.{Rest, runWith, nodeEvents, anchorEvents, anchorsOf};
 ghost use Rattle.transitions.specs.Moves.{moves};
@@ -98,4 +101,83 @@ pub fn move_media<'a>(
         new,
     );
     node_to(states, clocks, counts, log, v, aborting, n, new)
+}
+
+// Media n, with its duration, comes to the clock: its awake anchors that end there stop, those that begin there start, and at
+// its duration it stops itself.
+pub fn pass_media<'a>(
+    anchors: usize,
+    media: &'a [u8; 128],
+    begins: &'a [u16; 128],
+    ends: &'a [u16; 128],
+    states: &mut [u8; 64],
+    clocks: &mut [u16; 64],
+    counts: &mut [u32; 64],
+    anchor_states: &mut [u8; 128],
+    anchor_counts: &mut [u32; 128],
+    log: &mut [u8],
+    written: Written,
+    n: usize,
+    duration: u16,
+    clock: u16,
+) -> Written
+    requires { ⌜ (anchors ≤ 128) × (n < 64) ⌝ }
+    ensures { λ w. ⌜ ((d : Document) (rest : Rest)
+        → d .anchors ≡ anchorsOf anchors (now (media .entry)) (now (begins .entry)) (now (ends .entry))
+        → durationOf (d .nodes) n ≡ duration
+        → runWith (nodeEvents (now (states .exit)) (now (clocks .exit)) (now (counts .exit)))
+        (anchorEvents (now («anchor_states» .exit)) (now («anchor_counts» .exit))) rest
+        (logOf w (now (log .exit)))
+        ≡ passed d n clock
+        (runWith (nodeEvents (now (states .entry)) (now (clocks .entry)) (now (counts .entry)))
+        (anchorEvents (now («anchor_states» .entry)) (now («anchor_counts» .entry))) rest
+        (logOf written (now (log .entry))))) ⌝ }
+{
+    clocks[n] = clock;
+    let ended = move_anchors(
+        anchors,
+        media,
+        begins,
+        ends,
+        &mut *anchor_states,
+        &mut *anchor_counts,
+        &mut *log,
+        written,
+        Moving::EndingAt(clock),
+        false,
+        n,
+        terms::SLEEPING,
+    );
+    let begun = move_anchors(
+        anchors,
+        media,
+        begins,
+        ends,
+        &mut *anchor_states,
+        &mut *anchor_counts,
+        &mut *log,
+        ended,
+        Moving::BeginningAt(clock),
+        false,
+        n,
+        terms::OCCURRING,
+    );
+    if duration != clock {
+        return begun;
+    }
+    move_media(
+        anchors,
+        media,
+        begins,
+        ends,
+        states,
+        clocks,
+        counts,
+        anchor_states,
+        anchor_counts,
+        log,
+        begun,
+        terms::TO_STOP,
+        n,
+    )
 }

@@ -1,16 +1,17 @@
 -- `transitions::anchors::due_media` meets its contract. Assumes nothing.
 use Rattle.transitions.proofs.Prelude.{_≤_, _-_, arith, needs}
 use Rattle.base.specs.Marks.{Marked, marked-none, marked-done}
+use Rattle.transitions.specs.Lent.{anchorsOf}
 use Rattle.transitions.specs.Moves.{dueNext}
 use Rattle.transitions.proofs.AnchorLaws.{marked-due}
 use Rattle.transitions.proofs.anchors.due_media.Statement.{statement}
 use Rattle.transitions.proofs.anchors.due_media.Tie as tie
 
 abbrev Inv-loop : tie.InvT-loop
-Inv-loop anchors media times clocks marks₀ next₀ marks next = (next ≤ anchors) × Marked (dueNext media times clocks) next marks
+Inv-loop anchors media begins ends clocks marks₀ next₀ marks next = (next ≤ anchors) × Marked (dueNext (anchorsOf anchors media begins ends) clocks) next marks
 
 abbrev μ-loop : tie.MeasureT-loop
-μ-loop anchors media times clocks marks₀ next₀ marks next = anchors - next
+μ-loop anchors media begins ends clocks marks₀ next₀ marks next = anchors - next
 
 pub due-media-spec : {M : Type 1} → statement M
 due-media-spec =
@@ -21,17 +22,21 @@ due-media-spec =
     (λ c. search needs)  -- add-next
     (λ c. search needs)  -- element-copy-out-index-of
     (λ c κs. search needs)  -- index-of-requires
-    (λ c. search needs)  -- mul-is-next
-    (λ c. search needs)  -- element-copy-out-is-next
-    (λ c. search needs)  -- mul-is-next-2
-    (λ c. omega (arith, c .before .before .before .before .before .pre .1 _ (c .before .before .before .loop-test .taken), c .before .index-of .ensures .0))  -- element-copy-out-is-next-2
-    (λ c κs. search needs)  -- is-next-requires
+    (λ c. search needs)  -- mul-is-due
+    (λ c. search needs)  -- element-copy-out-is-due
+    (λ c. search needs)  -- mul-is-due-2
+    (λ c. search needs)  -- element-copy-out-is-due-2
+    (λ c. search needs)  -- mul-is-due-3
+    (λ c.
+    let the-entry = c .before .before .before .before .before .before in
+    omega (arith, the-entry .pre .1 _ (c .before .before .before .before .loop-test .taken), c .before .before .index-of .ensures .0))  -- element-copy-out-is-due-3
+    (λ c κs. search needs)  -- is-due-requires
     (λ c. search needs)  -- array-read-marks
     (λ c. search needs)  -- array-write-marks
     (λ c. search needs)  -- loop-less
     (λ c.
-    let the-index-of = c .before .before .before .index-of in
-    let the-loop = c .before .before .before .before .before .before .loop in
-    (omega arith, marked-due _ _ _ _ _ _ _ (the-index-of .ensures .1) (the-index-of .ensures .0) (c .is-next .ensures) (the-loop .inv .1)))  -- loop-again
+    let the-index-of = c .before .before .before .before .index-of in
+    let the-loop = c .before .before .before .before .before .before .before .loop in
+    (omega arith, marked-due _ _ _ _ _ _ (the-index-of .ensures .1) (the-index-of .ensures .0) (c .is-due .ensures) (the-loop .inv .1)))  -- loop-again
     (λ c. marked-done _ _ _ _ (omega arith) (c .before .loop .inv .1))  -- returns
     )

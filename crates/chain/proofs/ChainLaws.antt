@@ -1,45 +1,55 @@
 -- Laws of the chain that the loops cite.
-use mathlib.Core.Path.{_≡_, refl, sym, _∙_}
-use mathlib.Core.Bool.{true, false, _&&_, and-false}
+use mathlib.Core.Path.{_≡_, ap, _∙_}
+use mathlib.Core.Bool.{Bool, true, false, _&&_, and-false}
 use Prim.Native.Nat.{ℕ, suc, _+_, _-_, _<_, _≤_}
 use native.Mathlib.Omega.{arith}
 use borrow.Author.Tests.{lt-ltb, le-ltb}
 use lib.ListN.{length, getD}
-use Rattle.base.specs.Tests.{if_then_else_, _=?_, _<?_}
-use Rattle.machine.specs.Tables.{linkAt}
+use Rattle.base.specs.Tests.{if_then_else_, _=?_, _<?_, by-test}
+use Rattle.base.specs.Loops.{ascending-none, ascending-idle}
+use Rattle.machine.specs.Tables.{linkAt, actionCount}
 use Rattle.machine.specs.Log.{line}
-use Rattle.machine.specs.Deciding.{guardHolds}
 use Rattle.machine.specs.Events.{Run}
-use Rattle.machine.specs.Chain.{fires, goesOn, fired, linkTried, lineTaken, linesTaken}
+use Rattle.machine.specs.Chain.{fires, goesOn, actionRun, actionsRun, limitMet, fired, linkTried, lineTaken, linesTaken}
 use Rattle.machine.specs.declared.Document.{Document}
 use Rattle.machine.specs.declared.Line.{Line}
-use Rattle.chain.specs.Trying.{guarded}
+use Rattle.chain.specs.Trying.{mayFire, firingBegun}
 
--- a link that hears the line, and one that does not
+-- once something stops the call no action runs; and a link without actions runs none
+module _ (d : Document) (l : ℕ) (r : Run) where
+  actions-idle : goesOn r ≡ false → actionsRun d l r ≡ r
+  unfolding actionsRun actionRun if_then_else_
+  actions-idle e = ascending-idle _ _ _ (λ k h. rw e)
+
+  pub no-actions : actionCount (d .links) l ≡ 0 → r ≡ actionsRun d l r
+  unfolding actionsRun
+  no-actions e = rw e (ascending-none _ _)
+
+limit-stops : (r : Run) → goesOn (limitMet r) ≡ false
+unfolding goesOn limitMet if_then_else_
+limit-stops r = by-test (r .log .stop =? 0) (λ e. rw e) (λ e. rw (e, e))
+
+-- a firing is what it does before its actions, and then its actions
+begun-fired : (d : Document) (l : ℕ) (r : Run) → actionsRun d l (firingBegun (d .limit) l r) ≡ fired d l r
+unfolding firingBegun fired if_then_else_
+begun-fired d l r = by-test (r .firings <? d .limit) (λ e. rw e) (λ e. rw e (actions-idle d l _ (limit-stops r)))
+
+-- the turn of a link that does not hear the line, of one that hears it and may not fire, and of one that fires
 module _ (d : Document) (x : Line) (l : ℕ) (r : Run) where
-  pub heard : {z : Run} → linkAt (d .links) l .class =? x .class && linkAt (d .links) l .subject =? x .id && linkAt (d .links) l .transition =? x .transition ≡ true
-      → z ≡ guarded d l r → z ≡ linkTried d x l r
-  unfolding fires linkTried guarded
-  heard e p = p ∙ rw e
+  abbrev hearing : Bool
+  hearing = linkAt (d .links) l .class =? x .class && linkAt (d .links) l .subject =? x .id && linkAt (d .links) l .transition =? x .transition
 
-  pub not-heard : linkAt (d .links) l .class =? x .class && linkAt (d .links) l .subject =? x .id && linkAt (d .links) l .transition =? x .transition ≡ false
-      → r ≡ linkTried d x l r
+  pub not-heard : hearing ≡ false → r ≡ linkTried d x l r
   unfolding fires linkTried if_then_else_
   not-heard e = rw (e, and-false)
 
--- a link that hears a line when something stops the call; with a guard that holds; with one that does not
-module _ (d : Document) (l : ℕ) (r : Run) where
-  pub after-stop : goesOn r ≡ false → r ≡ guarded d l r
-  unfolding guarded if_then_else_
-  after-stop e = rw e
+  pub may-not : hearing ≡ true → mayFire d l r ≡ false → r ≡ linkTried d x l r
+  unfolding fires linkTried mayFire if_then_else_
+  may-not e f = rw (e, f)
 
-  pub guard-passes : {z : Run} → goesOn r ≡ true → guardHolds (d .rules) (r .state .properties .values) (linkAt (d .links) l .guard) ≡ true → z ≡ fired d l r → z ≡ guarded d l r
-  unfolding guarded if_then_else_
-  guard-passes e g p = p ∙ rw (e, g)
-
-  pub guard-fails : goesOn r ≡ true → guardHolds (d .rules) (r .state .properties .values) (linkAt (d .links) l .guard) ≡ false → r ≡ guarded d l r
-  unfolding guarded if_then_else_
-  guard-fails e g = rw (e, g)
+  pub fires-now : {y z : Run} → hearing ≡ true → mayFire d l r ≡ true → y ≡ firingBegun (d .limit) l r → z ≡ actionsRun d l y → z ≡ linkTried d x l r
+  unfolding fires linkTried mayFire if_then_else_
+  fires-now e f p q = q ∙ ap (actionsRun d l) p ∙ begun-fired d l r ∙ rw (e, f)
 
 -- one line of the chain, and its end
 module _ (d : Document) (n k : ℕ) (r : Run) {z : Run} (e : linesTaken d (n - k) k r ≡ z) where

@@ -1,13 +1,17 @@
--- A link that hears a line fires if nothing stops the call and its guard holds.
+-- A link that hears a line: whether it fires, and what a firing does before its actions.
 use Prim.Native.Nat.{ℕ}
-use mathlib.Core.Bool.{_&&_}
-use Rattle.base.specs.Tests.{if_then_else_}
+use mathlib.Core.Bool.{Bool, _&&_}
+use Rattle.base.specs.Tests.{if_then_else_, _<?_}
 use Rattle.machine.specs.Tables.{linkAt}
 use Rattle.machine.specs.Deciding.{guardHolds}
 use Rattle.machine.specs.Events.{Run}
-use Rattle.machine.specs.Chain.{goesOn, fired}
+use Rattle.machine.specs.Chain.{goesOn, firingLogged, limitMet}
 use Rattle.machine.specs.declared.Document.{Document}
 
-unfoldable pub guarded : Document → ℕ → Run → Run
-guarded d l r =
-    if goesOn r && guardHolds (d .rules) (r .state .properties .values) (linkAt (d .links) l .guard) then fired d l r else r
+-- nothing stops the call, and the guard of link l holds
+unfoldable pub mayFire : Document → ℕ → Run → Bool
+mayFire d l r = goesOn r && guardHolds (d .rules) (r .state .properties .values) (linkAt (d .links) l .guard)
+
+-- the firing of link l is logged and counted, or the limit is met
+unfoldable pub firingBegun : ℕ → ℕ → Run → Run
+firingBegun limit l r = if r .firings <? limit then firingLogged l r else limitMet r

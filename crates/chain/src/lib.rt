@@ -1,5 +1,6 @@
 // The chain of links: the lines of the log are taken in order, those too that are written meanwhile, and links fire on them.
 use events::Work;
+use log::Written;
 use log::emit;
 use log::goes_on;
 use log::line_at;
@@ -8,16 +9,19 @@ use machine::ActionRecord;
 use machine::Document;
 use machine::Line;
 use machine::Refusal;
+use machine::Rules;
 use machine::terms;
 ghost use mathlib.Core.Path.{_≡_};
 ghost use mathlib.Core.Bool.{_&&_};
-ghost use Prim.Native.Nat.{_+_, _<_};
+ghost use Prim.Native.Nat.{_<_};
 ghost use Rattle.base.specs.Tests.{_=?_};
-ghost use Rattle.machine.specs.Tables.{linkAt};
-ghost use Rattle.machine.specs.Chain.{firingLogged, actionsRun, fired, chained};
-ghost use Rattle.machine.specs.Sound.{Sound};
+ghost use Rattle.machine.specs.Answers.{checkNumber};
+ghost use Rattle.machine.specs.Terms.{noId};
+ghost use Rattle.machine.specs.Deciding.{guardHolds};
+ghost use Rattle.machine.specs.Chain.{actionsRun, chained};
+ghost use Rattle.machine.specs.Sound.{SoundRules, Sound};
 ghost use Rattle.events.specs.Running.{run};
-ghost use Rattle.chain.specs.Trying.{guarded};
+ghost use Rattle.chain.specs.Trying.{firingBegun};
 
 // The actions of link l run in order, each settled, while nothing stops the call.
 fn run_actions(d: Document, w: Work, log: &mut [u8], l: usize) -> Work
@@ -45,53 +49,39 @@ fn run_actions(d: Document, w: Work, log: &mut [u8], l: usize) -> Work
     t
 }
 
-// A firing is logged and counted.
-fn log_firing(w: Work, log: &mut [u8], l: usize) -> Work
-    requires { ⌜ (l < 64) × (w .firings < 255) ⌝ }
-    ensures { λ r. ⌜ run r (now (log .exit)) ≡ firingLogged l (run w (now (log .entry))) ⌝ }
+// What a firing of link l does before its actions: it is logged and counted, unless the limit is used up.
+fn begin_firing(w: Work, log: &mut [u8], limit: u8, l: usize) -> Work
+    requires { ⌜ l < 64 ⌝ }
+    ensures { λ r. ⌜ run r (now (log .exit)) ≡ firingBegun limit l (run w (now (log .entry))) ⌝ }
 {
     let mut t = w;
-    let written = emit(
-        log,
-        t.written,
-        terms::OF_FIRED,
-        l as u8,
-        terms::NO_TRANSITION,
-    );
-    t.written = written;
-    let firings = t.firings + 1;
-    t.firings = firings;
-    t
-}
-
-// Link l fires, unless the limit is used up.
-fn fire(d: Document, w: Work, log: &mut [u8], l: usize) -> Work
-    requires { ⌜ Sound d × (l < d .links .count) ⌝ }
-    ensures { λ r. ⌜ run r (now (log .exit)) ≡ fired d l (run w (now (log .entry))) ⌝ }
-{
-    if w.firings < d.limit {
-        let v = log_firing(w, &mut *log, l);
-        return run_actions(d, v, log, l);
+    let firings = t.firings;
+    if firings < limit {
+        let written = emit(
+            log,
+            t.written,
+            terms::OF_FIRED,
+            l as u8,
+            terms::NO_TRANSITION,
+        );
+        t.written = written;
+        t.firings = firings + 1;
+        return t;
     }
-    let mut t = w;
     let written = meet(t.written, Refusal::LimitReached);
     t.written = written;
     t
 }
 
-// Link l hears a line, and fires if nothing stops the call and its guard holds now.
-fn try_link(d: Document, w: Work, log: &mut [u8], l: usize, guard: u8) -> Work
-    requires { ⌜ Sound d × ((l < d .links .count) × (linkAt (d .links) l .guard ≡ guard)) ⌝ }
-    ensures { λ r. ⌜ run r (now (log .exit)) ≡ guarded d l (run w (now (log .entry))) ⌝ }
+// Whether a link that hears a line fires: nothing stops the call, and its guard holds now.
+fn may_fire(written: Written, rules: Rules, values: [i32; 32], guard: u8) -> bool
+    requires { ⌜ ((guard ≡ noId → ⊥) → guard < rules .count) × SoundRules 32 rules ⌝ }
+    ensures { λ b. ⌜ b ≡ checkNumber (written .stop) =? 0 && guardHolds rules values guard ⌝ }
 {
-    if !goes_on(w.written) {
-        return w;
+    if goes_on(written) {
+        return rules::guard_holds(rules, values, guard);
     }
-    let values = w.property_values;
-    if rules::guard_holds(d.rules, values, guard) {
-        return fire(d, w, log, l);
-    }
-    w
+    false
 }
 
 // Whether a link of this class, subject and transition hears the line.
@@ -108,7 +98,7 @@ fn hears(class: u8, subject: u8, transition: u8, x: Line) -> bool
 }
 
 // The lines of the log are taken in order, until none is left or something stops the call; for each, links by id.
-// Both loops stand here, so that a line that no link hears hands over no table.
+// Both loops stand here, so that the document is handed over only where a link that fires has actions.
 pub fn run_chain(d: Document, w: Work, log: &mut [u8]) -> Work
     requires { ⌜ Sound d ⌝ }
     ensures { λ r. ⌜ run r (now (log .exit)) ≡ chained d (run w (now (log .entry))) ⌝ }
@@ -134,7 +124,13 @@ pub fn run_chain(d: Document, w: Work, log: &mut [u8]) -> Work
             let l = link;
             link += 1;
             if hears(links.classes[l], links.subjects[l], links.transitions[l], x) {
-                t = try_link(d, t, &mut *log, l, links.guards[l]);
+                let values = t.property_values;
+                if may_fire(t.written, d.rules, values, links.guards[l]) {
+                    t = begin_firing(t, &mut *log, d.limit, l);
+                    if links.action_counts[l] > 0 {
+                        t = run_actions(d, t, &mut *log, l);
+                    }
+                }
             }
         }
     }

@@ -4,13 +4,15 @@ use Prim.Native.Nat.{_≤_, _-_}
 use native.Mathlib.Omega.{arith}
 use native.Mathlib.Nat.{sub-zero}
 use lib.ListN.{length}
-use borrow.Author.Needs.{needs}
 use Rattle.base.specs.Tests.{not-true, not-false}
 use Rattle.base.specs.Loops.{ascending, ascending-none, ascending-more, ascending-done}
 use Rattle.machine.specs.Chain.{goesOn, linkTried, lineTaken, linesTaken, chained}
+use Rattle.rules.specs.Facts.{sound-rules}
 use Rattle.events.specs.Running.{run}
 use Rattle.log.specs.LogSlice.{lines-have, lines-lack}
-use Rattle.chain.proofs.ChainLaws.{heard, not-heard, chain-more, chain-stopped, chain-ended, chain-done}
+use Rattle.chain.specs.Trying.{mayFire}
+use Rattle.chain.proofs.ChainLaws.{no-actions, not-heard, may-not, fires-now, chain-more, chain-stopped, chain-ended, chain-done}
+use borrow.Author.Needs.{needs}
 use Rattle.chain.proofs.run_chain.Statement.{statement}
 use Rattle.chain.proofs.run_chain.Tie as tie
 
@@ -27,14 +29,16 @@ abbrev μ-loop : tie.MeasureT-loop
 μ-loop d log₀ t₀ links end room next₀ log t next = room - next
 
 pub run-chain-spec : {M : Type 1} → statement M
-unfolding chained lineTaken goesOn
+unfolding chained lineTaken goesOn mayFire
 run-chain-spec =
     tie.close
     (tie.spec
     Inv-loop2 μ-loop2 Inv-loop μ-loop
     (λ c. (omega arith, refl, rw (sub-zero)))  -- loop-holds
     (λ c κs. search needs)  -- goes-on-requires
-    (λ c. c .before .before .before .loop .inv .1)  -- same-length
+    (λ c.
+    let the-loop = c .before .before .before .loop in
+    the-loop .inv .1)  -- same-length
     (λ c.
     let the-loop = c .before .before .before .loop in
     let the-loop-test = c .before .before .loop-test in
@@ -46,7 +50,9 @@ run-chain-spec =
     the-loop .inv .1)  -- same-length-2
     (λ c.
     let the-loop = c .before .before .before .before .loop in
-    chain-ended _ _ _ _ (the-loop .inv .2) (c .before .before .before .loop-test .taken) (lines-lack _ _ _ (c .if2 .taken) (omega arith)))  -- returns-2
+    let the-loop-test = c .before .before .before .loop-test in
+    let the-if2 = c .if2 in
+    chain-ended _ _ _ _ (the-loop .inv .2) (the-loop-test .taken) (lines-lack _ _ _ (the-if2 .taken) (omega arith)))  -- returns-2
     (λ c. search needs)  -- add-next
     (λ c κs. search needs)  -- line-at-requires
     (λ c. (omega arith, refl, ascending-none _ _))  -- loop2-holds
@@ -59,30 +65,87 @@ run-chain-spec =
     let the-loop-test = c .before .before .before .before .before .before .before .loop-test in
     let the-goes-on = c .before .before .before .before .before .before .goes-on in
     let the-if1 = c .before .before .before .before .before .if1 in
-    let the-if2 = c .before .before .before .before .if2 in
-    (omega arith, the-loop2 .inv .1 ∙ the-loop .inv .1, rw (ascending-done _ _ (the-entry .args .d .links .count) _ (omega arith) (the-loop2 .inv .2), the-line-at .ensures) (chain-more _ _ _ _ (the-loop .inv .2) (the-loop-test .taken) (sym (the-goes-on .ensures) ∙ not-false _ (the-if1 .left)) (lines-have _ _ _ (the-if2 .left) (omega arith)))))  -- loop-again
+    let the-if2 = c .before .before .before .before .if2 in (
+      omega arith,
+      the-loop2 .inv .1 ∙ the-loop .inv .1,
+      rw (ascending-done _ _ (the-entry .args .d .links .count) _ (omega arith) (the-loop2 .inv .2), the-line-at .ensures)
+          (chain-more _ _ _ _ (the-loop .inv .2) (the-loop-test .taken) (sym (the-goes-on .ensures) ∙ not-false _ (the-if1 .left)) (lines-have _ _ _ (the-if2 .left) (omega arith))),
+    ))  -- loop-again
     (λ c. search needs)  -- add-link
     (λ c. search needs)  -- element-copy-out-hears
     (λ c. search needs)  -- element-copy-out-hears-2
     (λ c. search needs)  -- element-copy-out-hears-3
     (λ c κs. search needs)  -- hears-requires
-    (λ c. search needs)  -- element-copy-out-try-link
+    (λ c. search needs)  -- element-copy-out-may-fire
     (λ c κs.
     let the-entry = c .before .before .before .before .before .before .before .before .before .before .before .before .before .before .before .before .before .before in
     let the-loop2-test = c .before .before .before .before .before .before .before .loop2-test in
-    (the-entry .pre, (the-loop2-test .taken, refl)))  -- try-link-requires
-    (λ c. search needs)  -- loop2-less
-    (λ c.
+    (the-entry .pre .link-guard _ (the-loop2-test .taken), sound-rules (the-entry .pre)))  -- may-fire-requires
+    (λ c κs.
+    let the-entry = c .before .before .before .before .before .before .before .before .before .before .before .before .before .before .before .before .before .before .before .before .before in
     let the-loop2-test = c .before .before .before .before .before .before .before .before .before .before .loop2-test in
-    let the-try-link = c .before .before .try-link in
-    let the-loop2 = c .before .before .before .before .before .before .before .before .before .before .before .loop2 in
-    let the-hears = c .before .before .before .before .before .before .hears in
-    let the-if3 = c .before .before .before .before .before .if3 in
-    (omega (arith, the-loop2-test), the-try-link .kept .1 .1 .0 ∙ the-loop2 .inv .1, ascending-more _ _ _ (the-loop2 .inv .2) (heard _ _ _ _ (sym (the-hears .ensures) ∙ the-if3 .taken) (the-try-link .ensures))))  -- loop2-again
-    (λ c. search needs)  -- loop2-less-2
+    omega (arith, the-entry .pre .links, the-loop2-test))  -- begin-firing-requires
+    (λ c.
+    let the-entry = c .before .before .before .before .before .before .before .before .before .before .before .before .before .before .before .before .before .before .before .before .before .before .before .before in
+    let the-loop2-test = c .before .before .before .before .before .before .before .before .before .before .before .before .before .loop2-test in
+    omega (arith, the-entry .pre .links, the-loop2-test))  -- element-copy-out-if5
+    (λ c κs.
+    let the-entry = c .before .before .before .before .before .before .before .before .before .before .before .before .before .before .before .before .before .before .before .before .before .before .before .before .before .before .before in
+    let the-loop2-test = c .before .before .before .before .before .before .before .before .before .before .before .before .before .before .before .before .loop2-test in
+    (the-entry .pre, the-loop2-test .taken))  -- run-actions-requires
+    (λ c.
+    let the-loop2-test = c .before .before .before .before .before .before .before .before .before .before .before .before .before .before .before .before .before .before .before .loop2-test in
+    omega (arith, the-loop2-test))  -- loop2-less
+    (λ c.
+    let the-loop2-test = c .before .before .before .before .before .before .before .before .before .before .before .before .before .before .before .before .before .before .before .loop2-test in
+    let the-run-actions = c .before .before .run-actions in
+    let the-begin-firing = c .before .before .before .before .before .before .before .before .begin-firing in
+    let the-loop2 = c .before .before .before .before .before .before .before .before .before .before .before .before .before .before .before .before .before .before .before .before .loop2 in
+    let the-hears = c .before .before .before .before .before .before .before .before .before .before .before .before .before .before .before .hears in
+    let the-if3 = c .before .before .before .before .before .before .before .before .before .before .before .before .before .before .if3 in
+    let the-may-fire = c .before .before .before .before .before .before .before .before .before .before .before .may-fire in
+    let the-if4 = c .before .before .before .before .before .before .before .before .before .before .if4 in (
+      omega (arith, the-loop2-test),
+      the-run-actions .kept .1 .1 .0 ∙ the-begin-firing .kept .1 .0 ∙ the-loop2 .inv .1,
+      ascending-more _ _ _ (the-loop2 .inv .2)
+          (fires-now _ _ _ _ (sym (the-hears .ensures) ∙ the-if3 .taken) (sym (the-may-fire .ensures) ∙ the-if4 .taken) (the-begin-firing .ensures) (the-run-actions .ensures)),
+    ))  -- loop2-again
+    (λ c.
+    let the-loop2-test = c .before .before .before .before .before .before .before .before .before .before .before .before .before .before .before .loop2-test in
+    omega (arith, the-loop2-test))  -- loop2-less-2
+    (λ c.
+    let the-loop2-test = c .before .before .before .before .before .before .before .before .before .before .before .before .before .before .before .loop2-test in
+    let the-begin-firing = c .before .before .before .before .begin-firing in
+    let the-loop2 = c .before .before .before .before .before .before .before .before .before .before .before .before .before .before .before .before .loop2 in
+    let the-hears = c .before .before .before .before .before .before .before .before .before .before .before .hears in
+    let the-if3 = c .before .before .before .before .before .before .before .before .before .before .if3 in
+    let the-may-fire = c .before .before .before .before .before .before .before .may-fire in
+    let the-if4 = c .before .before .before .before .before .before .if4 in
+    let the-if5 = c .if5 in (
+      omega (arith, the-loop2-test),
+      the-begin-firing .kept .1 .0 ∙ the-loop2 .inv .1,
+      ascending-more _ _ _ (the-loop2 .inv .2)
+          (fires-now _ _ _ _ (sym (the-hears .ensures) ∙ the-if3 .taken) (sym (the-may-fire .ensures) ∙ the-if4 .taken) (the-begin-firing .ensures) (no-actions _ _ _ (omega (arith, the-if5 .left)))),
+    ))  -- loop2-again-2
+    (λ c. search needs)  -- loop2-less-3
+    (λ c.
+    let the-loop2 = c .before .before .before .before .before .before .before .before .before .before .loop2 in
+    let the-hears = c .before .before .before .before .before .hears in
+    let the-if3 = c .before .before .before .before .if3 in
+    let the-may-fire = c .before .may-fire in
+    let the-if4 = c .if4 in
+    (omega arith, the-loop2 .inv .1, ascending-more _ _ _ (the-loop2 .inv .2) (may-not _ _ _ _ (sym (the-hears .ensures) ∙ the-if3 .taken) (sym (the-may-fire .ensures) ∙ the-if4 .left))))  -- loop2-again-3
+    (λ c. search needs)  -- loop2-less-4
     (λ c.
     let the-loop2 = c .before .before .before .before .before .before .loop2 in
-    (omega arith, the-loop2 .inv .1, ascending-more _ _ _ (the-loop2 .inv .2) (not-heard _ _ _ _ (sym (c .before .hears .ensures) ∙ c .if3 .left))))  -- loop2-again-2
-    (λ c. c .before .loop .inv .1)  -- same-length-3
-    (λ c. chain-done _ _ _ _ (c .before .loop .inv .2) (c .loop-test .left))  -- returns-3
+    let the-hears = c .before .hears in
+    let the-if3 = c .if3 in
+    (omega arith, the-loop2 .inv .1, ascending-more _ _ _ (the-loop2 .inv .2) (not-heard _ _ _ _ (sym (the-hears .ensures) ∙ the-if3 .left))))  -- loop2-again-4
+    (λ c.
+    let the-loop = c .before .loop in
+    the-loop .inv .1)  -- same-length-3
+    (λ c.
+    let the-loop = c .before .loop in
+    let the-loop-test = c .loop-test in
+    chain-done _ _ _ _ (the-loop .inv .2) (the-loop-test .left))  -- returns-3
     )

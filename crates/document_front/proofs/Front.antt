@@ -1,9 +1,9 @@
 -- Load's answer depends on no byte after the first `decidingBytes`. Each record that is entered takes its bytes from those that a document has
 -- room for; where no room is left, the next record stops the load, and it is whole within `recordLength 9` bytes.
 use Prim.Native.Nat.{ℕ, zero, suc, _+_, _-_, _*_, _<_, _≤_}
-use mathlib.Core.Bool.{not, _&&_}
+use mathlib.Core.Bool.{false, not, _&&_}
 use mathlib.Core.List.{List, [], _∷_, _++_}
-use mathlib.Core.Path.{_≡_, refl, ap, _∙_}
+use mathlib.Core.Path.{_≡_, refl, sym, ap, _∙_}
 use native.Mathlib.Nat.{le-refl, mul-suc, mul-le-mul-left}
 use native.Mathlib.Omega.{arith}
 use lib.ListN.{length, take, drop, take-append-drop, length-append, length-drop, length-set, List·getD-eq-default}
@@ -14,14 +14,21 @@ use Rattle.base.specs.Loops.{every, every-each}
 use Rattle.machine.specs.Terms.{simpleRule}
 use Rattle.machine.specs.Tables.{Table, nodeTable, anchorTable, ruleTable, bindTable, portTable, linkTable, latest, actionCount, emptyDocument, emptySession}
 use Rattle.machine.specs.Records.{greatestKind, bodyLength, nodeFault, anchorFault, propertyFault, ruleFault, bindFault, portFault, linkFault, recordOf, recordFault, entered}
-use Rattle.machine.specs.Load.{OrFault, good, faulty, andThen, cutAt, cut, checked, recordsEntered, placeFault, finished, load}
+use Rattle.machine.specs.Load.{OrFault, good, faulty, andThen, cutAt, cut, checked, recordsEntered, placeFault, LoadResult, finished, load}
+use Rattle.machine.specs.Broken.{broken}
+use Rattle.machine.specs.Answers.{loadAnswer}
 use Rattle.machine.specs.declared.Links.{Links}
+use Rattle.machine.specs.declared.Loaded.{Loaded}
+use Rattle.machine.specs.declared.LoadAnswer
+use Rattle.machine.specs.declared.LoadAnswer.{LoadAnswer}
 use Rattle.machine.specs.declared.Document.{Document}
 use Rattle.machine.specs.declared.Session.{Session}
 use Rattle.machine.specs.declared.Record.{Record}
 use Rattle.machine.specs.declared.Record.the-variants.{Head, Node, Anchor, Property, Rule, Bind, Port, Link, Action}
 use Rattle.machine.proofs.Keep.{chosen}
 use Rattle.machine.proofs.Cutting.{Known, and-then, unless-known}
+use Rattle.machine.proofs.FirstSession.{loaded-invariant}
+use Rattle.document.specs.Loading.{loadResult}
 use Rattle.document_front.specs.Front.{recordLength, decidingBytes}
 use Rattle.document.proofs.Room.{room, action-room, links-kept}
 
@@ -192,3 +199,10 @@ load-front n h bytes =
     ap finished (same-records (drop n bytes) _ (length bytes) (take n bytes) emptySession (omega arith) refl (omega arith) (omega (arith, leb-true n (length bytes) e)) (rw all-left (omega arith)))
     ∙ rw (take-append-drop n bytes))
     (λ e. ap load (take-all n bytes (omega (arith, leb-false n (length bytes) e))))
+
+-- the session of a document that is accepted is not broken
+pub loaded-unbroken : (loaded : Loaded) (bytes : List ℕ) → loadResult loaded ≡ load bytes → loaded .answer ≡ LoadAnswer.Accepted → broken (loaded .session) ≡ false
+loaded-unbroken loaded bytes e accepted =
+    let none : load bytes .answer .refusal ≡ 0 = ap (λ (r : LoadResult). r .answer .refusal) (sym e) ∙ rw accepted in
+    let same : loaded .session ≡ load bytes .session = ap (λ (r : LoadResult). r .session) e in
+    rw same (loaded-invariant bytes none .unbroken)

@@ -5,26 +5,30 @@ use document_front::DECIDING_BYTES;
 use libc::STDOUT_FILENO;
 use machine::LoadAnswer;
 use machine::Session;
+use printing::script::ScriptRecord;
+use script_run::Part;
+use script_run::Stop;
 ghost use mathlib.Core.Bool.{false};
 ghost use mathlib.Core.Path.{_≡_};
-ghost use Prim.Native.Nat.{_≤_};
-ghost use lib.ListN.{length};
+ghost use mathlib.Core.List.{List};
+ghost use Prim.Native.Nat.{ℕ, _≤_};
+ghost use lib.ListN.{length, take};
+ghost use lib.Seq.{slice};
 ghost use Rattle.machine.specs.Broken.{broken};
-ghost use Rattle.printed_run.specs.Held.{Held};
+ghost use Rattle.printing.specs.Lines.{lineRoom};
+ghost use Rattle.printing.specs.Script.{scriptRecord};
+ghost use Rattle.printing.specs.Writing.{Front};
+ghost use Rattle.printed_run.specs.Held.{HeldNext, Reached};
 
-// A run of a script: the session and the number of the next call; the bytes that were read and are not run yet, from `start` to `end`;
-// whether these are a cut record, or none; whether the script is read to its end; and whether the run goes on.
-struct ScriptRun {
-    session: Session,
-    number: u64,
-    start: usize,
-    end: usize,
-    is_cut: bool,
-    is_read: bool,
-    goes_on: bool,
+// A proved loop has to end, and nothing says that a file does: the loop counts its turns down, from a number that no run uses up. In so
+// many turns the number of a call does not become too large.
+const TURNS: u64 = 1_000_000_000_000_000;
+
+// After a part of the script: so many bytes are held at the front of their slice, which are to be run next; or the run ends.
+enum Next {
+    Held(usize),
+    End,
 }
-
-// ---- what is printed
 
 // Whether all was written.
 fn print(line: &[u8]) -> bool {
@@ -33,42 +37,6 @@ fn print(line: &[u8]) -> bool {
         os::fail(b"standard output");
     }
     is_written
-}
-
-fn stopped(mut run: ScriptRun) -> ScriptRun
-    ensures { λ r. ⌜ (r .session ≡ run .session) × (r .start ≡ run .start) × (r .end ≡ run .end) ⌝ }
-{
-    run.goes_on = false;
-    run
-}
-
-// Runs what is held, as far as there is room in `out` for its lines, and writes these. A run stops before the number of a call could
-// be too large. Where there is room left, a cut record is left.
-fn run_held(run: ScriptRun, part: &[u8], log: &mut [u8], out: &mut [u8]) -> ScriptRun
-    requires { ⌜ Held run (length (now part)) × (length (now log) ≡ 65_536) ⌝ }
-    ensures { λ r. ⌜ Held r (length (now (part .entry))) ⌝ }
-{
-    let start = run.start;
-    let end = run.end;
-    let number = run.number;
-    if u64::MAX - number < (end - start) as u64 {
-        return stopped(run);
-    }
-    let ran = script_run::run_part(run.session, number, &part[start..end], &mut *log, &mut *out);
-    let filled = ran.filled;
-    let is_written = print(&out[..filled]);
-    let goes_on = is_written & !ran.ended;
-    let has_room = out.len() - filled >= 50 + 3 * log.len();
-    let session = ran.session;
-    ScriptRun {
-        session,
-        number: ran.number,
-        start: start + ran.used,
-        end,
-        is_cut: goes_on & has_room,
-        is_read: run.is_read,
-        goes_on,
-    }
 }
 
 // ---- the script
@@ -81,82 +49,93 @@ fn read_script(fd: i32, part: &mut [u8]) -> isize {
     got
 }
 
-// The bytes from `start` to `end` go to the front of the slice. Answers how many they are.
-fn to_front(part: &mut [u8], start: usize, end: usize) -> usize
-    requires { ⌜ (start ≤ end) × (end ≤ length (now part)) ⌝ }
-    ensures { λ r. ⌜ r ≤ length (now (part .entry)) ⌝ }
+// The end of a script, of which these bytes are left.
+fn end_script(left: &[u8], out: &mut [u8])
+    requires { ⌜ (scriptRecord (now left) ≡ ScriptRecord.Cut) × (7 ≤ length (now out)) ⌝ }
 {
-    let size = end - start;
-    let mut next = 0;
-    while next < size {
-        let byte = part[start + next];
-        part[next] = byte;
-        next += 1;
+    let filled = script_run::finish(left, &mut *out);
+    print(&out[..filled]);
+}
+
+// Reads more of the script behind the bytes that are held, a cut record or none; where there is no more, the script ends with them.
+fn read_on(fd: i32, part: &mut [u8], held: usize, out: &mut [u8]) -> Next
+    requires { ⌜ (held ≤ length (now part)) × (scriptRecord (take held (now part)) ≡ ScriptRecord.Cut)
+        × (7 ≤ length (now out)) ⌝ }
+    ensures { λ r. ⌜ HeldNext (take held (now (part .entry))) (now (part .exit)) r ⌝ }
+{
+    let got = read_script(fd, &mut part[held..]);
+    if got < 0 {
+        return Next::End;
     }
-    size
+    let n = io::count(got, &part[held..]);
+    if n == 0 {
+        end_script(&part[..held], out);
+        return Next::End;
+    }
+    Next::Held(held + n)
 }
 
-// Reads more bytes behind those that are held.
-fn read_on(mut run: ScriptRun, fd: i32, part: &mut [u8]) -> ScriptRun
-    requires { ⌜ Held run (length (now part)) ⌝ }
-    ensures { λ r. ⌜ Held r (length (now (part .entry))) ⌝ }
+// After a part of the script of so many bytes was run: writes its lines, and reads on where all its whole records are run.
+fn go_on(
+    fd: i32,
+    part: &mut [u8],
+    held: usize,
+    used: usize,
+    stop: Stop,
+    filled: usize,
+    out: &mut [u8],
+) -> Next
+    requires { ⌜ (used ≤ held) × (held ≤ length (now part)) × Front filled (now out) × (7 ≤ length (now out))
+        × (stop ≡ Stop.Cut → scriptRecord (slice used held (now part)) ≡ ScriptRecord.Cut) ⌝ }
+    ensures held { λ r. ⌜ HeldNext (slice used held (now (part .entry))) (now (part .exit)) r ⌝ }
+    ensures ended { λ r. ⌜ (stop ≡ Stop.Ended → r ≡ Next.End) ⌝ }
 {
-    let left = to_front(&mut *part, run.start, run.end);
-    let got = read_script(fd, &mut part[left..]);
-    let n = io::count(got, &part[left..]);
-    run.start = 0;
-    run.end = left + n;
-    run.is_read = got <= 0;
-    run.goes_on = got >= 0;
-    run
-}
-
-// The end of a script that was read: what is held is a cut record, or nothing.
-fn end_script(run: ScriptRun, part: &[u8], out: &mut [u8])
-    requires { ⌜ Held run (length (now part)) × (7 ≤ length (now out)) ⌝ }
-{
-    if run.goes_on & run.is_read {
-        let start = run.start;
-        let end = run.end;
-        let filled = script_run::finish(&part[start..end], &mut *out);
-        print(&out[..filled]);
+    if !print(&out[..filled]) {
+        return Next::End;
+    }
+    let left = script_run::to_front(&mut *part, used, held);
+    match stop {
+        Stop::Full => Next::Held(left),
+        Stop::Cut => read_on(fd, part, left, out),
+        Stop::Ended => Next::End,
     }
 }
 
-// All lines are written before more of the script is read: whoever feeds it through a pipe sees the lines of what has been read.
-// A proved loop has to end, and nothing says that a file does: the loop counts its turns down, from a number that no run uses up.
-fn run_parts(run: ScriptRun, fd: i32, part: &mut [u8], log: &mut [u8], out: &mut [u8])
-    requires { ⌜ Held run (length (now part)) × (length (now log) ≡ 65_536) × (7 ≤ length (now out)) ⌝ }
+// The first bytes of the script are in `part`, so many as `first` says. All lines are written before more of the script is read: whoever
+// feeds it through a pipe sees the lines of what has been read. Answers the last part.
+fn run_script(
+    session: Session,
+    fd: i32,
+    part: &mut [u8],
+    first: isize,
+    log: &mut [u8],
+    out: &mut [u8],
+) -> Part
+    requires { ⌜ (broken session ≡ false) × (length (now part) ≡ 4_096) × (length (now log) ≡ 65_536)
+        × (lineRoom 65_536 ≤ length (now out)) ⌝ }
+    ensures { λ r. ⌜ ((r .stop ≡ Stop.Ended → ⊥) → (left : List ℕ) × Reached session r left) ⌝ }
 {
-    let mut r = run;
-    let mut turns = u64::MAX;
-    while turns > 0 && r.goes_on && !r.is_read {
-        turns -= 1;
-        r = run_held(r, &*part, &mut *log, &mut *out);
-        if r.is_cut {
-            r = read_on(r, fd, &mut *part);
-        }
-    }
-    end_script(r, &*part, out)
-}
-
-// The first bytes of the script are in `part`, so many as `first` says.
-fn run_script(session: Session, fd: i32, part: &mut [u8], first: isize)
-    requires { ⌜ broken session ≡ false ⌝ }
-{
-    let mut log = [0u8; 65536];
-    let mut out = [0u8; 262144];
-    let n = io::count(first, &*part);
-    let run = ScriptRun {
+    let mut held = io::count(first, &*part);
+    // Nothing is run yet.
+    let mut ran = Part {
         session,
         number: 1,
-        start: 0,
-        end: n,
-        is_cut: false,
-        is_read: first == 0,
-        goes_on: true,
+        used: 0,
+        filled: 0,
+        stop: Stop::Full,
     };
-    run_parts(run, fd, part, &mut log, &mut out)
+    let mut turns = TURNS;
+    while turns > 0 {
+        turns -= 1;
+        ran = script_run::run_part(ran.session, ran.number, &part[..held], &mut *log, &mut *out);
+        let stop = ran.stop;
+        let next = go_on(fd, &mut *part, held, ran.used, stop, ran.filled, &mut *out);
+        match next {
+            Next::Held(n) => held = n,
+            Next::End => return ran,
+        }
+    }
+    ran
 }
 
 // ---- files
@@ -198,13 +177,18 @@ fn run_document(
     fd: i32,
     part: &mut [u8],
     first: isize,
+    log: &mut [u8],
+    out: &mut [u8],
 )
-    requires { ⌜ filled ≤ length (now document) ⌝ }
+    requires { ⌜ (filled ≤ length (now document)) × (length (now part) ≡ 4_096) × (length (now log) ≡ 65_536)
+        × (lineRoom 65_536 ≤ length (now out)) ⌝ }
 {
     let loaded = document_front::load_front(document, filled);
     let answer = loaded.answer;
     match answer {
-        LoadAnswer::Accepted => run_script(loaded.session, fd, part, first),
+        LoadAnswer::Accepted => {
+            run_script(loaded.session, fd, part, first, log, out);
+        }
         LoadAnswer::Refused(refusal) => {
             let mut line = [0u8; 8];
             let n = printing::lines::document_line(&mut line, refusal);
@@ -231,6 +215,8 @@ fn main() {
         return;
     }
     let n = io::count(got, &document);
-    run_document(&document, n, fd, &mut part, first);
+    let mut log = [0u8; 65536];
+    let mut out = [0u8; 262144];
+    run_document(&document, n, fd, &mut part, first, &mut log, &mut out);
     libc::close(fd);
 }

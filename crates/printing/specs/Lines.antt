@@ -1,5 +1,5 @@
 -- The parts of a printed line.
-use Prim.Native.Nat.{ℕ, _-_}
+use Prim.Native.Nat.{ℕ, _+_, _*_, _-_}
 use mathlib.Core.Bool.{Bool, false, not}
 use mathlib.Core.List.{List, _++_}
 use lib.ListN.{length, getD}
@@ -22,3 +22,7 @@ acceptedText firings log = text " ok " ++ decimal (length (linesOf log)) ++ (tex
 
 unfoldable pub refusedText : ℕ → List ℕ
 refusedText number = text " no " ++ decimal number
+
+-- room for a call's line, with a log of so many bytes: for each 4 bytes of it a line of at most 12 characters, and 50 for the rest
+abbrev pub lineRoom : ℕ → ℕ
+lineRoom size = 50 + 3 * size

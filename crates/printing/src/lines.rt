@@ -8,7 +8,7 @@ use machine::Refusal;
 use machine::number_of;
 ghost use mathlib.Core.Path.{_≡_};
 ghost use mathlib.Core.List.{_++_};
-ghost use Prim.Native.Nat.{_+_, _*_, _≤_};
+ghost use Prim.Native.Nat.{_+_, _≤_};
 ghost use lib.ListN.{length, take};
 ghost use Rattle.machine.specs.Answers.{numberOf, callAnswer};
 ghost use Rattle.machine.specs.Log.{linesOf};
@@ -16,7 +16,10 @@ ghost use Rattle.machine.specs.PrintedRun.{printedLines, printedCall};
 ghost use Rattle.machine.specs.Text.{text, decimal};
 ghost use Rattle.machine.specs.declared.Session.{Session};
 ghost use Rattle.printing.specs.Writing.{Written, Front, Printed};
-ghost use Rattle.printing.specs.Lines.{lineText, isLine, acceptedText, refusedText};
+ghost use Rattle.printing.specs.Lines.{lineText, isLine, acceptedText, refusedText, lineRoom};
+
+// Room for a call's line, with a log of 65,536 bytes (`Lines.lineRoom`).
+pub const LINE_ROOM: usize = 196_658;
 
 // ---- the lines of a log
 
@@ -91,7 +94,7 @@ fn put_refused(out: &mut [u8], at: usize, number: u8) -> usize
 // ---- whole lines
 
 fn accepted_line(out: &mut [u8], number: u64, firings: u8, log: &[u8]) -> usize
-    requires { ⌜ 50 + 3 * length (now log) ≤ length (now out) ⌝ }
+    requires { ⌜ lineRoom (length (now log)) ≤ length (now out) ⌝ }
     ensures { λ r. ⌜ Printed (decimal number ++ acceptedText firings (now (log .entry)) ++ text "\n")
         (now (out .exit)) r ⌝ }
 {
@@ -111,7 +114,7 @@ fn refused_line(out: &mut [u8], number: u64, refusal: u8) -> usize
 
 // The line of a call; `out` is long enough for every answer with this log. Answers the line's length.
 pub fn call_line(out: &mut [u8], number: u64, answer: CallAnswer, log: &[u8]) -> usize
-    requires { ⌜ 50 + 3 * length (now log) ≤ length (now out) ⌝ }
+    requires { ⌜ lineRoom (length (now log)) ≤ length (now out) ⌝ }
     ensures front { λ r. ⌜ Front r (now (out .exit)) ⌝ }
     ensures printed { λ r. ⌜ ((s : Session) → take r (now (out .exit))
         ≡ printedCall number (record { answer = callAnswer answer; session = s; log = now (log .entry) })) ⌝ }

@@ -1,11 +1,13 @@
 -- What a script prints, record by record, whatever bytes follow.
 use Prim.Native.Nat.{ℕ, zero, suc, _+_, _-_, _<_, _≤_}
+use native.Mathlib.Nat.{add-comm}
+use native.Mathlib.Numerals.{add-one}
 use native.Mathlib.Omega.{arith}
 use mathlib.Core.Bool.{true, false, _&&_, false≢true}
-use mathlib.Core.List.{List, [], _∷_, _++_, append-assoc, append-nil}
+use mathlib.Core.List.{List, [], _∷_, _++_, append-assoc}
 use mathlib.Core.Path.{_≡_, refl, sym, ap, _∙_}
-use lib.ListN.{length, length-append, length-drop, take, drop}
-use lib.Seq.{length-take-le, take-all, take-append-le, take-append-add, drop-append-le, drop-drop}
+use lib.ListN.{length, length-append, length-drop, take, drop, getD, set, take-append-drop}
+use lib.Seq.{length-take-le, take-all, take-suc, take-suc-set, take-append-le, take-append-add, drop-append-le, drop-drop, drop-set-lt, getD-drop, take-at, slice, length-slice}
 use borrow.Rule.Slice.PartMut.{postOf, putMid}
 use borrow.Author.Tests.{leb-true, le-leb}
 use Rattle.base.specs.Tests.{if_then_else_, by-test, both-pass, _≤?_}
@@ -18,7 +20,8 @@ use Rattle.machine.specs.declared.Session.{Session}
 use Rattle.printing.specs.declared.script.ScriptRecord
 use Rattle.printing.specs.declared.script.ScriptRecord.{ScriptRecord}
 use Rattle.printing.specs.Script.{recordAfter, scriptRecord}
-use Rattle.script_run.specs.Running.{printedAll, callSize, Added, part, printedAfter, Ran}
+use Rattle.printing.specs.Writing.{Printed}
+use Rattle.script_run.specs.Running.{printedAll, callSize, Added, GoesOn, Ends}
 
 -- a larger bound on the records prints no more
 enough : (a b n : ℕ) (script : List ℕ) (s : Session) → length script ≤ a → length script ≤ b → printedScript a n script s ≡ printedScript b n script s
@@ -43,8 +46,8 @@ size-is (suc (suc zero)) body k = refl
 size-is (suc (suc (suc zero))) body k = refl
 size-is (suc (suc (suc (suc kind)))) body k = absurd (omega (arith, leb-true (suc (suc (suc (suc kind)))) 3 (both-pass (1 ≤? suc (suc (suc (suc kind)))) _ k .1)))
 
--- two records of different kinds
-apart : {P : Type 0} → _≡_ {A = ℕ} 0 1 → P
+-- two cases that differ
+pub apart : {P : Type 0} → _≡_ {A = ℕ} 0 1 → P
 apart e = absurd (omega arith)
 
 -- a call stands there: it has its bytes, and prints its line
@@ -131,25 +134,60 @@ part-added at out new {t} {r} h k e =
 
 -- ---- a part of a script
 
-module _ (number : ℕ) (script : List ℕ) (s : Session) where
-  pub ran-none : (out : List ℕ) → Ran number script s out (part s number 0 0 false)
-  unfolding printedAfter if_then_else_
-  ran-none out = record { printed = λ rest. refl }
+-- nothing is run yet; and what is run from there on, where a run stands
+pub none-run : {number : ℕ} {s : Session} {script : List ℕ} → GoesOn number s script [] number s script
+none-run = record { prints = λ rest. refl }
 
-  -- one more record, which stands at the front of what is left
-  module _ (session : Session) (n used filled : ℕ) (out out' : List ℕ) (end : ℕ) (ran : Ran number script s out (part session n used filled false)) where
-    pub ran-call : (c : Call) (r : CallResult) → scriptRecord (drop used script) ≡ ScriptRecord.Call c → r ≡ call session c 65_536 → Added (printedCall n r) out filled out' end
-        → Ran number script s out' (part (r .session) (n + 1) (used + callSize c) end false)
-    unfolding printedAfter if_then_else_
-    ran-call c r first e a = record {
-      printed = λ rest.
-          let b = drop used script in
-          let front = call-first (b ++ rest) c (call-more b rest c first) in
-          let left : drop (callSize c) (b ++ rest) ≡ drop (used + callSize c) script ++ rest
-          = drop-append-le (callSize c) b rest (call-first b c first .fits) ∙ rw (drop-drop (callSize c) used script) in
-          ran .printed rest ∙ rw (front .prints n session, left, ← e, a .added) (sym (append-assoc (take filled out) _ _));
+pub run-on : {number n m : ℕ} {s a b : Session} {script left end printed more : List ℕ} → GoesOn number s script printed n a left → GoesOn n a left more m b end → GoesOn number s script (printed ++ more) m b end
+run-on {printed = printed} ran then-ran = record { prints = λ rest. ran .prints rest ∙ rw (then-ran .prints rest) (sym (append-assoc printed _ _)) }
+
+-- more bytes are read
+pub read-on : {number n : ℕ} {s a : Session} {script left printed : List ℕ} → GoesOn number s script printed n a left → (more : List ℕ) → GoesOn number s (script ++ more) printed n a (left ++ more)
+read-on {script = script} {left = left} ran more = record { prints = λ rest. rw (append-assoc script, append-assoc left) (ran .prints (more ++ rest)) }
+
+call-run : (n : ℕ) (s : Session) (b : List ℕ) (c : Call) → scriptRecord b ≡ ScriptRecord.Call c
+    → GoesOn n s b (printedCall n (call s c 65_536)) (n + 1) (call s c 65_536 .session) (drop (callSize c) b)
+call-run n s b c first = record {
+  prints = λ rest. call-first (b ++ rest) c (call-more b rest c first) .prints n s ∙ rw (drop-append-le (callSize c) b rest (call-first b c first .fits));
+}
+
+-- one more record, which stands at the front of what is left
+module _ {number n end : ℕ} {s session : Session} {out' : List ℕ} (used filled : ℕ) (script out : List ℕ) (ran : GoesOn number s script (take filled out) n session (drop used script)) where
+  pub ran-call : (c : Call) (r : CallResult) → scriptRecord (drop used script) ≡ ScriptRecord.Call c → r ≡ call session c 65_536 → Added (printedCall n r) out filled out' end
+      → GoesOn number s script (take end out') (n + 1) (r .session) (drop (used + callSize c) script)
+  ran-call c r first e a = rw (a .added, e, ← drop-drop (callSize c) used script) (run-on ran (call-run n session _ c first))
+
+  pub ran-wrong : scriptRecord (drop used script) ≡ ScriptRecord.Wrong → Added (text "script\n") out filled out' end → Ends number s script (take end out')
+  ran-wrong first a = record { prints = λ rest. ran .prints rest ∙ rw (wrong-first (drop used script) rest first n session, a .added) }
+
+-- ---- bytes that go to the front of their slice
+
+-- so many of them did, and those after them are as they were
+pub record Moved (start : ℕ) (before after : List ℕ) (next : ℕ) : Type 0 where
+  pub moved : take next after ≡ take next (drop start before)
+  pub kept : drop next after ≡ drop next before
+
+pub none-moved : (start : ℕ) (before : List ℕ) → Moved start before before 0
+none-moved start before = record { moved = refl; kept = refl }
+
+pub one-moved : (start : ℕ) (before after : List ℕ) (next : ℕ) → length after ≡ length before → start + next < length before → Moved start before after next
+    → Moved start before (set after next (getD after (start + next) 0)) (next + 1)
+one-moved start before after next same h m =
+    let at : getD after (start + next) 0 ≡ getD (drop start before) next 0
+    = rw (add-comm start next, ← getD-drop next after start 0, m .kept, getD-drop next before start 0, add-comm next start) (sym (getD-drop start before next 0)) in
+    rw add-one
+    record {
+      moved = take-suc-set after next _ (omega arith) ∙ rw (m .moved, at) (sym (take-suc (drop start before) next 0 (omega (arith, length-drop start before))));
+      kept = drop-set-lt (suc next) after next _ (omega arith) ∙ (rw (drop-drop 1 next after, drop-drop 1 next before, add-one) at (ap (drop 1) (m .kept)));
     }
 
-    pub ran-wrong : scriptRecord (drop used script) ≡ ScriptRecord.Wrong → Added (text "script\n") out filled out' end → Ran number script s out' (part session n used end true)
-    unfolding printedAfter if_then_else_
-    ran-wrong first a = record { printed = λ rest. ran .printed rest ∙ rw (wrong-first (drop used script) rest first n session, a .added) (sym (append-nil _)) }
+pub all-moved : (start end : ℕ) (before after : List ℕ) (next : ℕ) → next ≡ end - start → start ≤ end → end ≤ length before → length after ≡ length before → Moved start before after next
+    → Printed (slice start end before) after next
+all-moved start end before after next size h k same m =
+    let l = length-take-le end before k in
+    record {
+      front = (omega arith, sym (length-take-le next after (omega arith)));
+      printed = m .moved
+          ∙ ap (λ (b : List ℕ). take next (drop start b)) (sym (take-append-drop end before))
+          ∙ rw (drop-append-le start (take end before) (drop end before) (omega arith)) (take-at (slice start end before) (drop end before) next (length-slice start end before k ∙ sym size));
+    }

@@ -3,28 +3,39 @@ use machine::Call;
 use machine::CallAnswer;
 use machine::Called;
 use machine::Session;
+use printing::lines::LINE_ROOM;
 use printing::script::ScriptRecord;
 ghost use mathlib.Core.Bool.{false};
 ghost use mathlib.Core.Path.{_≡_};
-ghost use Prim.Native.Nat.{ℕ, _+_, _*_, _^_, _<_, _≤_};
-ghost use lib.ListN.{length, drop};
+ghost use Prim.Native.Nat.{ℕ, _+_, _^_, _<_, _≤_};
+ghost use lib.ListN.{length, take};
+ghost use lib.Seq.{slice};
 ghost use Rattle.machine.specs.Answers.{callAnswer};
 ghost use Rattle.machine.specs.Broken.{broken};
 ghost use Rattle.machine.specs.PrintedRun.{printedCall};
 ghost use Rattle.machine.specs.Text.{text};
 ghost use Rattle.machine.specs.declared.Session.{Session};
+ghost use Rattle.printing.specs.Lines.{lineRoom};
 ghost use Rattle.printing.specs.Script.{scriptRecord};
 ghost use Rattle.printing.specs.Writing.{Front, Printed};
 ghost use Rattle.script_run.specs.Running.{printedAll, callSize, Added, Ran};
 
+// Why a part of a script stopped: there is no room for one line more; the bytes that are left are a cut record, or none; or the line
+// of a wrong record was written.
+pub enum Stop {
+    Full,
+    Cut,
+    Ended,
+}
+
 // What is run of a part of a script: the session then, the number of the next call, how many bytes of the part were used and of
-// `out` filled, and whether the run ended at a wrong record.
+// `out` filled, and why it stopped.
 pub struct Part {
     pub session: Session,
     pub number: u64,
     pub used: usize,
     pub filled: usize,
-    pub ended: bool,
+    pub stop: Stop,
 }
 
 fn size_of(call: Call) -> usize
@@ -39,7 +50,7 @@ fn size_of(call: Call) -> usize
 
 // The line of a call, after those that stand in `out`.
 fn add_line(filled: usize, number: u64, answer: CallAnswer, log: &[u8], out: &mut [u8]) -> usize
-    requires { ⌜ filled + (50 + 3 * length (now log)) ≤ length (now out) ⌝ }
+    requires { ⌜ filled + lineRoom (length (now log)) ≤ length (now out) ⌝ }
     ensures { λ r. ⌜ ((s : Session) → Added
         (printedCall number (record { answer = callAnswer answer; session = s; log = now (log .entry) }))
         (now (out .entry)) filled (now (out .exit)) r) ⌝ }
@@ -55,17 +66,11 @@ fn add_script(filled: usize, out: &mut [u8]) -> usize
     filled + printing::lines::script_line(&mut out[filled..])
 }
 
-// Runs the records at the front of `script` while `out` has room for one line more, of a call or of a wrong record. Bytes that
-// are left are a cut record, if there is room.
+// Runs the records at the front of `script` while `out` has room for one line more, of a call or of a wrong record.
 pub fn run_part(s: Session, number: u64, script: &[u8], log: &mut [u8], out: &mut [u8]) -> Part
-    requires { ⌜ (broken s ≡ false) × (length (now log) ≡ 65_536) × (number + length (now script) < 2 ^ 64) ⌝ }
-    ensures printed { λ r. ⌜ Ran number (now (script .entry)) s (now (out .exit)) r ⌝ }
-    ensures unbroken { λ r. ⌜ broken (r .session) ≡ false ⌝ }
-    ensures bounds { λ r. ⌜ Front (r .filled) (now (out .exit)) × (r .used ≤ length (now (script .entry)))
-        × (r .number ≤ number + r .used) ⌝ }
-    ensures progress { λ r. ⌜ (r .ended ≡ false
-        → r .filled + (50 + 3 * length (now (log .entry))) ≤ length (now (out .entry))
-        → scriptRecord (drop (r .used) (now (script .entry))) ≡ ScriptRecord.Cut) ⌝ }
+    requires { ⌜ (broken s ≡ false) × (length (now log) ≡ 65_536) × (number + length (now script) < 2 ^ 64)
+        × (lineRoom 65_536 ≤ length (now out)) ⌝ }
+    ensures { λ r. ⌜ Ran number s (now (script .entry)) (now (out .exit)) r ⌝ }
 {
     // A session is large: it stays where the last call gave it back. Nobody reads the answer that stands there before the first call.
     let mut called = Called {
@@ -75,7 +80,7 @@ pub fn run_part(s: Session, number: u64, script: &[u8], log: &mut [u8], out: &mu
     let mut next = number;
     let mut used = 0;
     let mut filled = 0;
-    while out.len() - filled >= 50 + 3 * log.len() {
+    while out.len() - filled >= LINE_ROOM {
         match printing::script::record_in(&script[used..]) {
             ScriptRecord::Call(c) => {
                 called = engine::call(called.session, c, &mut *log);
@@ -91,7 +96,7 @@ pub fn run_part(s: Session, number: u64, script: &[u8], log: &mut [u8], out: &mu
                     number: next,
                     used,
                     filled,
-                    ended: false,
+                    stop: Stop::Cut,
                 };
             }
             ScriptRecord::Wrong => {
@@ -102,7 +107,7 @@ pub fn run_part(s: Session, number: u64, script: &[u8], log: &mut [u8], out: &mu
                     number: next,
                     used,
                     filled: end,
-                    ended: true,
+                    stop: Stop::Ended,
                 };
             }
         }
@@ -113,16 +118,32 @@ pub fn run_part(s: Session, number: u64, script: &[u8], log: &mut [u8], out: &mu
         number: next,
         used,
         filled,
-        ended: false,
+        stop: Stop::Full,
     }
+}
+
+// The bytes from `start` to `end`, which are left of a part, go to the front of the slice, so that more can be read behind them. Answers
+// how many they are.
+pub fn to_front(bytes: &mut [u8], start: usize, end: usize) -> usize
+    requires { ⌜ (start ≤ end) × (end ≤ length (now bytes)) ⌝ }
+    ensures { λ r. ⌜ Printed (slice start end (now (bytes .entry))) (now (bytes .exit)) r ⌝ }
+{
+    let size = end - start;
+    let mut next = 0;
+    while next < size {
+        let byte = bytes[start + next];
+        bytes[next] = byte;
+        next += 1;
+    }
+    next
 }
 
 // The end of a script, of which these bytes are left: a cut record, or nothing.
 pub fn finish(left: &[u8], out: &mut [u8]) -> usize
-    requires { ⌜ 7 ≤ length (now out) ⌝ }
+    requires { ⌜ (scriptRecord (now left) ≡ ScriptRecord.Cut) × (7 ≤ length (now out)) ⌝ }
     ensures front { λ r. ⌜ Front r (now (out .exit)) ⌝ }
-    ensures printed { λ r. ⌜ ((number : ℕ) (s : Session) → scriptRecord (now (left .entry)) ≡ ScriptRecord.Cut
-        → Printed (printedAll number (now (left .entry)) s) (now (out .exit)) r) ⌝ }
+    ensures printed { λ r. ⌜ ((number : ℕ) (s : Session)
+        → take r (now (out .exit)) ≡ printedAll number (now (left .entry)) s) ⌝ }
 {
     if left.len() == 0 {
         return 0;

@@ -11,10 +11,14 @@ pub finish-spec : {M : Type 1} → statement M
 finish-spec =
     tie.close
     (tie.spec
-    (λ c. ((search needs, refl), λ number s e. record { front = (search needs, refl); printed = sym (prints-nothing _ (c .if1 .taken) number s) }))  -- returns
+    (λ c.
+    let the-if1 = c .if1 in
+    ((search needs, refl), λ number s. sym (prints-nothing _ (the-if1 .taken) number s)))  -- returns
     (λ c κs. search needs)  -- script-line-requires
     (λ c. search needs)  -- same-length
     (λ c.
     let the-script-line = c .before .before .script-line in
-    (the-script-line .ensures .front, λ number s e. record { front = the-script-line .ensures .front; printed = the-script-line .ensures .printed ∙ sym (cut-first _ (c .before .before .before .before .if1 .left) e number s) }))  -- returns-2
+    let the-if1 = c .before .before .before .before .if1 in
+    let the-entry = c .before .before .before .before .before .before .before in
+    (the-script-line .ensures .front, λ number s. the-script-line .ensures .printed ∙ sym (cut-first _ (the-if1 .left) (the-entry .pre .0) number s)))  -- returns-2
     )

@@ -1,7 +1,7 @@
 -- Two signed numbers are equal where their bits are.
-use mathlib.Core.Path.{_≡_, refl, sym, ap, _∙_}
+use mathlib.Core.Path.{_≡_, refl, sym, _∙_}
 use mathlib.Core.Bool.{Bool, true, false}
-use Prim.Native.Nat.{ℕ, suc, _+_, _-_, _<_, _^_}
+use Prim.Native.Nat.{ℕ, suc, _-_, _<_, _^_}
 use native.Mathlib.Omega.{arith}
 use lib.IntN.{ℤ, pos, negsuc}
 use lib.Dec.{eqb}

@@ -39,17 +39,19 @@ module _ (d : Document) (x : Line) (l : ℕ) (r : Run) where
   abbrev hearing : Bool
   hearing = linkAt (d .links) l .class =? x .class && linkAt (d .links) l .subject =? x .id && linkAt (d .links) l .transition =? x .transition
 
-  pub not-heard : hearing ≡ false → r ≡ linkTried d x l r
-  unfolding fires linkTried if_then_else_
-  not-heard e = rw (e, and-false)
+  module _ {hears : Bool} (e : hears ≡ hearing) where
+    pub not-heard : hears ≡ false → r ≡ linkTried d x l r
+    unfolding fires linkTried if_then_else_
+    not-heard h = rw (← e, h, and-false)
 
-  pub may-not : hearing ≡ true → mayFire d l r ≡ false → r ≡ linkTried d x l r
-  unfolding fires linkTried mayFire if_then_else_
-  may-not e f = rw (e, f)
+    module _ (h : hears ≡ true) {may : Bool} (f : may ≡ mayFire d l r) where
+      pub may-not : may ≡ false → r ≡ linkTried d x l r
+      unfolding fires linkTried mayFire if_then_else_
+      may-not m = rw (← e, h, ← f, m)
 
-  pub fires-now : {y z : Run} → hearing ≡ true → mayFire d l r ≡ true → y ≡ firingBegun (d .limit) l r → z ≡ actionsRun d l y → z ≡ linkTried d x l r
-  unfolding fires linkTried mayFire if_then_else_
-  fires-now e f p q = q ∙ ap (actionsRun d l) p ∙ begun-fired d l r ∙ rw (e, f)
+      pub fires-now : {y z : Run} → may ≡ true → y ≡ firingBegun (d .limit) l r → z ≡ actionsRun d l y → z ≡ linkTried d x l r
+      unfolding fires linkTried mayFire if_then_else_
+      fires-now m p q = q ∙ ap (actionsRun d l) p ∙ begun-fired d l r ∙ rw (← e, h, ← f, m)
 
 -- one line of the chain, and its end
 module _ (d : Document) (n k : ℕ) (r : Run) {z : Run} (e : linesTaken d (n - k) k r ≡ z) where

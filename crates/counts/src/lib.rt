@@ -8,7 +8,6 @@ ghost use mathlib.Core.Path.{_≡_};
 ghost use mathlib.Core.Bool.{true};
 ghost use mathlib.Core.List.{[], _∷_};
 ghost use Prim.Native.Nat.{_<_};
-ghost use Rattle.machine.specs.Answers.{conditionNumber};
 ghost use Rattle.machine.specs.Tables.{anchorAt};
 ghost use Rattle.machine.specs.Counts.{firstFailing, failing, showsCounts, countOf};
 ghost use Rattle.machine.specs.Sound.{Sound};
@@ -86,18 +85,4 @@ pub fn count_of(d: Document, property: u8, anchor: u8) -> i32
     let targets = actions.targets;
     let j = links::count_action(&kinds, &targets, l, links.action_counts[l], property);
     actions.values[8 * l + j]
-}
-
-// The number of a condition.
-pub fn number_of(condition: Condition) -> u8
-    ensures { λ r. ⌜ r ≡ conditionNumber condition ⌝ }
-{
-    match condition {
-        Condition::HasAnchor => 1,
-        Condition::AnchorsDisjoint => 2,
-        Condition::EachHasOneLink => 3,
-        Condition::EachSetsOnce => 4,
-        Condition::EachUnguarded => 5,
-        Condition::NoOtherAction => 6,
-    }
 }

@@ -104,7 +104,7 @@ fn has_same_port(ports: Ports, r: PortRecord, end: usize) -> bool
 fn check_node(nodes: Nodes, r: NodeRecord) -> Check
     ensures { λ c. ⌜ checkNumber c ≡ nodeFault nodes (nodes .count) r ⌝ }
 {
-    records::checks::check_node(nodes.count, r, type_of(nodes, r.parent))
+    checks::check_node(nodes.count, r, type_of(nodes, r.parent))
 }
 
 fn check_anchor(nodes: Nodes, id: usize, r: AnchorRecord) -> Check
@@ -112,7 +112,7 @@ fn check_anchor(nodes: Nodes, id: usize, r: AnchorRecord) -> Check
 {
     let media_type = type_of(nodes, r.media);
     let duration = duration_of(nodes, r.media);
-    records::checks::check_anchor(id, r, nodes.count, media_type, duration)
+    checks::check_anchor(id, r, nodes.count, media_type, duration)
 }
 
 fn check_bind(d: Document, r: BindRecord) -> Check
@@ -124,7 +124,7 @@ fn check_bind(d: Document, r: BindRecord) -> Check
     let switch_type = type_of(nodes, r.switch);
     let child_parent = parent_of(nodes, r.child);
     let second = has_default(binds, r.switch, binds.count);
-    records::checks::check_bind(
+    checks::check_bind(
         binds.count,
         r,
         nodes.count,
@@ -143,7 +143,7 @@ fn check_port(d: Document, r: PortRecord) -> Check
     let context_type = type_of(nodes, r.context);
     let child_parent = parent_of(nodes, r.child);
     let second = has_same_port(ports, r, ports.count);
-    records::checks::check_port(
+    checks::check_port(
         ports.count,
         r,
         nodes.count,
@@ -161,7 +161,7 @@ fn check_link(d: Document, r: LinkRecord) -> Check
     let rules = d.rules;
     let links = d.links;
     let owner_type = type_of(nodes, r.owner);
-    records::checks::check_link(
+    checks::check_link(
         links.count,
         r,
         nodes.count,
@@ -195,7 +195,7 @@ fn check_action(d: Document, r: ActionRecord) -> Check
     let nodes = d.nodes;
     let links = d.links;
     let id = base::index_of(latest_actions(links));
-    records::checks::check_action(id, r, links.count, nodes.count, d.properties)
+    checks::check_action(id, r, links.count, nodes.count, d.properties)
 }
 
 // ---- a record of any kind
@@ -210,8 +210,8 @@ pub fn check_record(d: Document, r: Record) -> Check
         Record::Head(_) => Check::Passed,
         Record::Node(node) => check_node(nodes, node),
         Record::Anchor(anchor) => check_anchor(nodes, anchors.count, anchor),
-        Record::Property(_) => records::checks::check_property(d.properties),
-        Record::Rule(rule) => records::checks::check_rule(d.properties, rules.count, rule),
+        Record::Property(_) => checks::check_property(d.properties),
+        Record::Rule(rule) => checks::check_rule(d.properties, rules.count, rule),
         Record::Bind(bind) => check_bind(d, bind),
         Record::Port(port) => check_port(d, port),
         Record::Link(link) => check_link(d, link),

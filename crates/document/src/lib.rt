@@ -2,4 +2,3 @@
 pub mod checking;
 pub mod entering;
 pub mod loading;
-pub mod reading;

@@ -2,8 +2,6 @@
 use crate::checking::check_place;
 use crate::checking::check_record;
 use crate::entering::enter;
-use crate::reading::Reading;
-use crate::reading::cut_at;
 use machine::Actions;
 use machine::AnchorEvents;
 use machine::Anchors;
@@ -22,6 +20,8 @@ use machine::Rules;
 use machine::Session;
 use machine::State;
 use machine::terms;
+use records::reading::Reading;
+use records::reading::cut_at;
 use records::tables::body_length;
 ghost use mathlib.Core.Path.{_≡_};
 ghost use Prim.Native.Nat.{_<_};
@@ -29,8 +29,8 @@ ghost use lib.ListN.{length};
 ghost use Rattle.machine.specs.Tables.{emptyDocument, newState, emptySession};
 ghost use Rattle.machine.specs.Load.{good, unless, checked, placeFault, loadRefused, finished, load};
 ghost use Rattle.machine.specs.Answers.{numberOf, checkNumber, loadAnswer};
-ghost use Rattle.document.specs.Reading.{cutFrom, readingOf, answerOf};
-ghost use Rattle.document.specs.Loading.{loadResult};
+ghost use Rattle.records.specs.Reading.{cutFrom, readingOf};
+ghost use Rattle.document.specs.Loading.{loadResult, answerOf};
 
 fn empty_document() -> Document
     ensures { λ r. ⌜ r ≡ emptyDocument ⌝ }

@@ -8,7 +8,7 @@ use native.Mathlib.Nat.{le-refl, mul-suc, mul-le-mul-left}
 use native.Mathlib.Omega.{arith}
 use lib.ListN.{length, take, drop, take-append-drop, length-append, length-drop, length-set, List·getD-eq-default}
 use lib.Seq.{getD-set-same, take-all, length-take-le, take-append-le, drop-append-le}
-use borrow.Author.Tests.{eqb-true, eqb-false, leb-true, leb-false, ltb-true, ltb-false, le-ltb}
+use borrow.Author.Tests.{eqb-true, eqb-false, leb-true, leb-false, ltb-false, le-ltb}
 use Rattle.base.specs.Tests.{if_then_else_, _=?_, _≤?_, _<?_, by-test, both-pass, not-true}
 use Rattle.base.specs.Loops.{every, every-each}
 use Rattle.machine.specs.Terms.{simpleRule}
@@ -16,7 +16,6 @@ use Rattle.machine.specs.Tables.{Table, nodeTable, anchorTable, ruleTable, bind
 use Rattle.machine.specs.Records.{greatestKind, bodyLength, nodeFault, anchorFault, propertyFault, ruleFault, bindFault, portFault, linkFault, recordOf, recordFault, entered}
 use Rattle.machine.specs.Load.{OrFault, good, faulty, andThen, cutAt, cut, checked, recordsEntered, placeFault, LoadResult, finished, load}
 use Rattle.machine.specs.Broken.{broken}
-use Rattle.machine.specs.Answers.{loadAnswer}
 use Rattle.machine.specs.declared.Links.{Links}
 use Rattle.machine.specs.declared.Loaded.{Loaded}
 use Rattle.machine.specs.declared.LoadAnswer

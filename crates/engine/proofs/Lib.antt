@@ -1,2 +1,1 @@
-mod ReadEvents
 mod Unbroken

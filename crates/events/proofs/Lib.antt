@@ -2,5 +2,4 @@
 mod Prelude
 mod BelowLaws
 mod Gathering
-mod TickLaws
 mod BelowQueue

@@ -1,10 +1,10 @@
 -- What the proofs of this crate bring in, by one line.
 pub use mathlib.Core.Path.{_≡_, refl, sym, ap, _∙_}
-pub use Prim.Native.Nat.{ℕ, _≤_, _<_, _+_, _-_}
+pub use Prim.Native.Nat.{ℕ, _≤_, _<_, _-_}
 pub use native.Mathlib.Omega.{arith}
 pub use lib.ListN.{length}
 pub use borrow.Author.Needs.{needs}
-pub use borrow.Author.Tests.{lt-ltb, le-ltb, eq-eqb, ne-eqb}
+pub use borrow.Author.Tests.{eq-eqb, ne-eqb}
 unfoldable pub use Rattle.base.specs.Tests.{if_then_else_}
 unfoldable pub use Rattle.base.specs.Loops.{ascending, descending}
 pub use Rattle.base.specs.Loops.{ascending-none, ascending-more, ascending-done, descending-more, descending-done}

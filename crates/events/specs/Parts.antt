@@ -1,7 +1,7 @@
 -- What the contracts of inner functions name beside the definitions of `machine`.
 use mathlib.Core.Bool.{Bool, not, _&&_}
 use Prim.Native.Nat.{ℕ}
-use Rattle.base.specs.Tests.{if_then_else_, _=?_, _<?_}
+use Rattle.base.specs.Tests.{if_then_else_, _=?_}
 use Rattle.machine.specs.Terms.{media, sleeping, occurring, paused}
 use Rattle.machine.specs.Events.{awake}
 
@@ -16,7 +16,3 @@ withChild state child =
     else if awake state then state
     else if child =? paused then paused
     else sleeping
-
--- a node of this type, state and clock adds one to its clock
-unfoldable pub advancing : ℕ → ℕ → ℕ → Bool
-advancing type state clock = type =? media && state =? occurring && clock <? 65_535

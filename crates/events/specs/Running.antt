@@ -2,14 +2,15 @@
 use Prim.Native.Nat.{ℕ}
 use mathlib.Core.List.{List}
 use Rattle.machine.specs.Events.{Run}
+use Rattle.machine.specs.OfColumns.{nodeEventsOf, anchorEventsOf, propertyEventsOf}
 use Rattle.log.specs.LogSlice.{logOf}
-use Rattle.transitions.specs.Lent.{Rest, runWith, nodeEvents, anchorEvents}
+use Rattle.transitions.specs.Lent.{Rest, runWith}
 use Rattle.events.specs.declared.Work.{Work}
 
 abbrev pub restOf : Work → Rest
-restOf w = record { properties = record { values = w .«property_values»; counts = w .«property_counts» }; firings = w .firings }
+restOf w = record { properties = propertyEventsOf (w .«property_values») (w .«property_counts»); firings = w .firings }
 
 abbrev pub run : Work → List ℕ → Run
 run w bytes =
-    runWith (nodeEvents (w .«node_states») (w .«node_clocks») (w .«node_counts»)) (anchorEvents (w .«anchor_states») (w .«anchor_counts»))
+    runWith (nodeEventsOf (w .«node_states») (w .«node_clocks») (w .«node_counts»)) (anchorEventsOf (w .«anchor_states») (w .«anchor_counts»))
     (restOf w) (logOf (w .written) bytes)

@@ -1,11 +1,10 @@
-// What happens to events between two looks at the log: media and their anchors, composites, settling, properties, and the
-// tick's own part. Each function changes the working record of a call and writes its lines to the log slice; it states the
-// whole of what it does by a definition of `machine`.
+// What an action does to events: to media and their anchors, to properties, and by settling to composites. Each function changes
+// the working record of a call and writes its lines to the log slice; it states the whole of what it does by a definition of
+// `machine`.
 pub mod acting;
 mod media;
 mod properties;
-mod settling;
-pub mod ticking;
+pub mod settling;
 
 use log::Written;
 use machine::AnchorEvents;

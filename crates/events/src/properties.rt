@@ -1,8 +1,8 @@
 // Set of a property.
 use super::Work;
+use changes::count_after;
 use log::emit;
 use machine::terms;
-use transitions::node::count_after;
 ghost use mathlib.Core.Path.{_≡_};
 ghost use Prim.Native.Nat.{_<_};
 ghost use Rattle.machine.specs.Events.{setProperty};

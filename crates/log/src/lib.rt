@@ -1,8 +1,8 @@
 // The log slice: lines of 4 bytes, class, id, transition, 0.
+use answers::passed;
 use machine::Check;
 use machine::Line;
 use machine::Refusal;
-use machine::passed;
 ghost use mathlib.Core.List.{List};
 ghost use mathlib.Core.Path.{_≡_};
 ghost use Prim.Native.Nat.{ℕ, _/_, _<_, _≤_};

@@ -1,13 +1,12 @@
 -- 01's starred examples, and one for each of its traps, from the bytes of a document: one list, one theorem, proved by computing.
-use Prim.Native.Nat.{ℕ, zero, suc, _+_, _*_, _-_}
+use Prim.Native.Nat.{ℕ, _+_, _*_, _-_}
 use Prim.Native.String.{String}
-use mathlib.Core.Bool.{Bool, true, false}
 use mathlib.Core.List.{List, [], _∷_, _++_}
 use mathlib.Core.Path.{_≡_, refl}
 use lib.IntN.{ℤ, pos, negsuc}
 use Rattle.base.specs.Tests.{if_then_else_, _=?_, _<?_}
-use Rattle.machine.specs.Terms.{sleeping, occurring, paused, toStart, toStop, toAbort, toPause, toResume, toSet, ofNode, ofAnchor, ofProperty}
-use Rattle.machine.specs.Answers.{Answer, refused}
+use Rattle.machine.specs.Terms.{sleeping, occurring, paused, toStart, toStop, toAbort, toPause, toSet, ofNode, ofAnchor, ofProperty}
+use Rattle.machine.specs.Answers.{Answer}
 use Rattle.machine.specs.Load.{load}
 use Rattle.machine.specs.Operations.{command, CallResult, reading, read, sessionAfter, resultsOf}
 use Rattle.machine.specs.Text.{text}

@@ -11,6 +11,7 @@ pub mod Tick
 pub mod Chain
 pub mod Broken
 pub mod Sound
+pub mod OfColumns
 pub mod Operations
 pub mod Demand3
 pub mod Counts
@@ -18,4 +19,3 @@ pub mod Text
 pub mod PrintedRun
 pub mod Computing
 pub mod Examples
-pub mod CountExamples

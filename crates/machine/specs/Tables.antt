@@ -1,6 +1,6 @@
 -- The tables of a session: the empty session, what a table says of an id, an entry as a record, a table as its columns, and a table with one entry more.
-use Prim.Native.Nat.{ℕ, zero, _+_, _-_, _*_}
-use mathlib.Core.Bool.{Bool, true, false, not, _&&_}
+use Prim.Native.Nat.{ℕ, _+_, _-_, _*_}
+use mathlib.Core.Bool.{Bool, _&&_}
 use mathlib.Core.List.{List, [], _∷_}
 use lib.IntN.{ℤ, pos}
 use lib.ListN.{getD, set, take, drop, replicate}

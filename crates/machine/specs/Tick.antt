@@ -1,6 +1,6 @@
 -- "Tick", and "Key logs one line".
 use Prim.Native.Nat.{ℕ, _+_}
-use mathlib.Core.Bool.{Bool, true, false, _&&_}
+use mathlib.Core.Bool.{false, _&&_}
 use lib.ListN.{set}
 use Rattle.base.specs.Tests.{if_then_else_, _=?_, _<?_}
 use Rattle.base.specs.Loops.{ascending}

@@ -1,11 +1,7 @@
-// The types of the report player. What its operations do is defined in specs/; the only code is the number of a refusal and whether a check passed; 01's numbers by name are in `terms`.
+// The types of the report player. What its operations do is defined in specs/; there is no code here. 01's numbers by name are in `terms`.
 //
 // A session is written down in public numbers, laid out as in C, and anybody may write one: nothing is assumed of it.
 pub mod terms;
-
-ghost use mathlib.Core.Path.{_≡_};
-ghost use Rattle.base.specs.Tests.{_=?_};
-ghost use Rattle.machine.specs.Answers.{numberOf, checkNumber};
 
 // ---- the tables of a document: entry i of each array belongs to id i
 
@@ -223,39 +219,10 @@ pub enum Refusal {
     BrokenSession,
 }
 
-pub fn number_of(refusal: Refusal) -> u8
-    ensures { λ r. ⌜ r ≡ numberOf refusal ⌝ }
-{
-    match refusal {
-        Refusal::CutRecord => 1,
-        Refusal::UnknownKind => 2,
-        Refusal::MisplacedHead => 3,
-        Refusal::TableFull => 4,
-        Refusal::FieldOutOfRange => 5,
-        Refusal::UnknownId => 6,
-        Refusal::Conflict => 7,
-        Refusal::NoNode => 8,
-        Refusal::BadArgument => 9,
-        Refusal::NoSuchId => 10,
-        Refusal::LimitReached => 11,
-        Refusal::LogFull => 12,
-        Refusal::BrokenSession => 13,
-    }
-}
-
 // What a check answers, and what stops a call: nothing, or a refusal.
 pub enum Check {
     Passed,
     Refused(Refusal),
-}
-
-pub fn passed(check: Check) -> bool
-    ensures { λ b. ⌜ b ≡ checkNumber check =? 0 ⌝ }
-{
-    match check {
-        Check::Passed => true,
-        Check::Refused(_) => false,
-    }
 }
 
 pub enum LoadAnswer {

@@ -28,7 +28,7 @@ use Rattle.machine.specs.declared.ReadAnswer.the-variants.{Found}
 use Rattle.machine.specs.declared.CountsAnswer.the-variants.{Shown}
 use Rattle.machine.specs.declared.CountAnswer.the-variants.{Count}
 use Rattle.document.specs.Loading.{loadResult}
-use Rattle.player.proofs.Joined.{CallOf, Made, by-call, by-command, by-key, by-tick, sessionOf, callOf, bytesOf, resultOf, resultsOfMade, sessionAfterMade, MadeFrom, LoadedDocument, sessionLoaded, ForEveryListMade, NeverSetsMade, CheckedCounts, CountGiven, PropertyRead, CountsForEveryListMade}
+use Rattle.player.proofs.Joined.{Made, by-call, by-command, by-key, by-tick, sessionOf, callOf, bytesOf, resultOf, resultsOfMade, sessionAfterMade, MadeFrom, LoadedDocument, sessionLoaded, ForEveryListMade, NeverSetsMade, CheckedCounts, CountGiven, PropertyRead, CountsForEveryListMade}
 
 -- the contracts say what the definition gives
 promise : (m : Made) → resultOf m ≡ call (sessionOf m) (callOf m) (bytesOf m)

@@ -1,5 +1,5 @@
 // The report player: the crate to link. Any session, any arguments and a log slice of any length may be handed in.
-// A session that is not broken goes on to `engine`.
+// A session that is not broken goes on to `engine` and `questions`.
 use machine::ActionRecord;
 use machine::Call;
 use machine::Called;
@@ -66,7 +66,7 @@ pub fn read(s: Session, class: u8, id: u8) -> ReadAnswer
     if session_check::is_broken(s) {
         return ReadAnswer::Refused(Refusal::BrokenSession);
     }
-    engine::read(s, class, id)
+    questions::read(s, class, id)
 }
 
 pub fn check_counts(s: Session, media: u8, property: u8) -> CountsAnswer
@@ -75,7 +75,7 @@ pub fn check_counts(s: Session, media: u8, property: u8) -> CountsAnswer
     if session_check::is_broken(s) {
         return CountsAnswer::Refused(Refusal::BrokenSession);
     }
-    engine::check_counts(s, media, property)
+    questions::check_counts(s, media, property)
 }
 
 pub fn count_of(s: Session, anchor: u8, property: u8) -> CountAnswer
@@ -84,5 +84,5 @@ pub fn count_of(s: Session, anchor: u8, property: u8) -> CountAnswer
     if session_check::is_broken(s) {
         return CountAnswer::Refused(Refusal::BrokenSession);
     }
-    engine::count_of(s, anchor, property)
+    questions::count_of(s, anchor, property)
 }

@@ -1,5 +1,7 @@
 // The player's operations for tests and measurements from another language: sessions go in and come back as C lays them
 // out, so that any session can be handed over.
+use answers::condition_number;
+use answers::number_of;
 use machine::CallAnswer;
 use machine::Called;
 use machine::CountAnswer;
@@ -8,7 +10,6 @@ use machine::LoadAnswer;
 use machine::Loaded;
 use machine::ReadAnswer;
 use machine::Session;
-use machine::number_of;
 ghost use mathlib.Core.List.{List};
 ghost use mathlib.Core.Path.{_≡_};
 ghost use Prim.Native.Nat.{ℕ};
@@ -133,7 +134,7 @@ fn returned_check(answer: CountsAnswer) -> ReturnedCheck
         CountsAnswer::Fails(condition) => ReturnedCheck {
             accepted: true,
             refusal: 0,
-            condition: counts::number_of(condition),
+            condition: condition_number(condition),
         },
         CountsAnswer::Refused(refusal) => ReturnedCheck {
             accepted: false,
@@ -156,7 +157,7 @@ fn returned_count(answer: CountAnswer) -> ReturnedCount
         CountAnswer::Fails(condition) => ReturnedCount {
             accepted: true,
             refusal: 0,
-            condition: counts::number_of(condition),
+            condition: condition_number(condition),
             count: 0,
         },
         CountAnswer::Refused(refusal) => ReturnedCount {

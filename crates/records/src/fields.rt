@@ -2,8 +2,9 @@
 use machine::ActionRecord;
 ghost use mathlib.Core.Path.{_≡_};
 ghost use Prim.Native.Nat.{_<_, _≤_, _+_, _*_};
-ghost use lib.IntN.{negsuc};
+ghost use lib.IntN.{pos, negsuc};
 ghost use lib.ListN.{getD};
+ghost use Rattle.base.specs.Tests.{equalInts};
 ghost use Rattle.machine.specs.Fields.{u16, u32, signed, i32};
 ghost use Rattle.machine.specs.Records.{actionOf};
 
@@ -81,6 +82,13 @@ pub fn i32_at(body: &[u8], at: usize) -> i32
     ensures { λ r. ⌜ r ≡ i32 (now (body .entry)) at ⌝ }
 {
     signed_of(u32_at(body, at))
+}
+
+// Whether a value is 0.
+pub fn is_zero(value: i32) -> bool
+    ensures { λ b. ⌜ b ≡ equalInts value (pos 0) ⌝ }
+{
+    value == 0
 }
 
 // The fields of an action; a command in a script has the same.

@@ -1,4 +1,4 @@
-// The records of a document: the constant tables, the fields of a body, and the checks of one record, which loading and the session check share.
-pub mod checks;
+// The records of a document: the constant tables, the fields of a body, and one record cut from the bytes.
 pub mod fields;
+pub mod reading;
 pub mod tables;

@@ -1,3 +1,1 @@
 pub mod Memo
-pub mod ByKind
-pub mod Facts

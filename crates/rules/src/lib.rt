@@ -54,21 +54,28 @@ fn simple_rule_holds<'a>(
     compare(comparators[id], x, y)
 }
 
+// What is known of a rule.
+const NOT_DECIDED: u8 = 0;
+
+const DOES_NOT_HOLD: u8 = 1;
+
+const HOLDS: u8 = 2;
+
 fn mark_of(holds: bool) -> u8
     ensures { λ r. ⌜ r ≡ markOf holds ⌝ }
 {
     if holds {
-        return 2;
+        return HOLDS;
     }
-    1
+    DOES_NOT_HOLD
 }
 
-// What is known of the rules, by id, once the simple ones are decided: 0 not decided yet, 1 does not hold, 2 holds.
+// What is known of the rules, by id, once the simple ones are decided.
 pub fn simple_marks(rules: Rules, values: [i32; 32]) -> [u8; 32]
     requires { ⌜ SoundRules 32 rules ⌝ }
     ensures { λ r. ⌜ Known rules values (rules .count) r ⌝ }
 {
-    let mut known = [0u8; 32];
+    let mut known = [NOT_DECIDED; 32];
     let end = rules.count;
     let mut next = 0;
     while next < end {
@@ -101,8 +108,8 @@ pub fn decide<'a>(
         (now (known .entry)) id r (now (known .exit)) ⌝ }
 {
     let mark = known[id];
-    if mark != 0 {
-        return mark == 2;
+    if mark != NOT_DECIDED {
+        return mark == HOLDS;
     }
     let left = index_of(lefts[id]);
     let first = decide(operators, lefts, rights, &mut *known, left);

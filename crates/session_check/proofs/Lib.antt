@@ -1,9 +1,1 @@
 pub mod EmptySession
-mod Prelude
-mod Verdicts
-mod Zeros
-mod Full
-mod SamePort
-mod Clocks
-mod DocumentEnds
-mod Slots

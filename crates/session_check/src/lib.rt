@@ -1,9 +1,9 @@
 // Whether a session is broken. Any session may be handed in: its counts may be any numbers, its bytes any bytes.
-mod ends;
-mod states;
-mod tables;
-
+use end_check::document_ends_zero;
+use end_check::state_ends_zero;
 use machine::Session;
+use state_check::states_right;
+use table_check::tables_obey;
 ghost use mathlib.Core.Path.{_≡_};
 ghost use Rattle.machine.specs.Broken.{broken};
 
@@ -12,9 +12,9 @@ pub fn is_broken(s: Session) -> bool
 {
     let d = s.document;
     let state = s.state;
-    if !tables::tables_obey(d) {
+    if !tables_obey(d) {
         return true;
     }
-    let zero = ends::document_ends_zero(d) & ends::state_ends_zero(d, state);
-    !(zero & states::states_right(d, state))
+    let zero = document_ends_zero(d) & state_ends_zero(d, state);
+    !(zero & states_right(d, state))
 }

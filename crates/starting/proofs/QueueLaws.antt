@@ -1,4 +1,4 @@
--- Laws of the queue: it has room for one media more, and leads on by that media's start.
+-- Laws of the queue: it has room for one media more, and the run that it makes then is the start of that media on the one that it made before.
 use mathlib.Core.Path.{_≡_, refl, _∙_}
 use mathlib.Core.Bool.{Bool}
 use mathlib.Core.List.{List, [], _∷_}
@@ -16,7 +16,7 @@ use Rattle.machine.specs.declared.Document.{Document}
 use Rattle.machine.proofs.Keep.{chosen, pass-keeps}
 use Rattle.machine.proofs.Effects.{getD-set}
 use Rattle.starting.specs.Queues.{queueOf, queueMoved}
-use Rattle.starting.specs.Reaching.{sleepers, Room, Ahead}
+use Rattle.starting.specs.Reaching.{sleepers, Room, QueueRun}
 
 -- ---- how many sleep: no more than there are, and one less after one wakes
 
@@ -93,9 +93,9 @@ module _ (states media : List ℕ) (count n : ℕ) (room : Room states (queueOf 
     ids = ids-more media count n (omega (arith, queue-room, room .queue-places)) h (room .ids);
   }
 
-  pub ahead-more : (d : Document) (s x : Run) → Ahead (d .anchors) s states (queueOf media count) x
-      → Ahead (d .anchors) s (set states n occurring) (queueOf (set media count n) (count + 1)) (mediaMoved (d .anchors) toStart n x)
-  ahead-more d s x a =
+  pub run-more : (d : Document) (s x : Run) → QueueRun (d .anchors) s states (queueOf media count) x
+      → QueueRun (d .anchors) s (set states n occurring) (queueOf (set media count n) (count + 1)) (mediaMoved (d .anchors) toStart n x)
+  run-more d s x a =
       let has = media-wakes d n x (rw (a .nodes) sleeps) in
       record {
         run = moved-more media count n (omega (arith, queue-room, room .queue-places)) (d .anchors) toStart s x (a .run);
@@ -108,6 +108,6 @@ module _ (states media : List ℕ) (count n : ℕ) (room : Room states (queueOf 
 pub room-none : (states : List ℕ) → length states ≡ 64 → Room states (queueOf (replicate 64 0) 0)
 room-none states places = record { state-places = places; queue-places = refl; most = omega (arith, sleepers-few states); ids = λ i h. absurd (omega arith) }
 
-pub ahead-none : (anchors : Anchors) (s : Run) → Ahead anchors s (s .state .nodes .states) (queueOf (replicate 64 0) 0) s
+pub run-none : (anchors : Anchors) (s : Run) → QueueRun anchors s (s .state .nodes .states) (queueOf (replicate 64 0) 0) s
 unfolding queueMoved ascending
-ahead-none anchors s = record { run = refl; nodes = refl; values = refl }
+run-none anchors s = record { run = refl; nodes = refl; values = refl }

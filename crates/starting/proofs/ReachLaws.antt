@@ -16,17 +16,17 @@ use Rattle.machine.specs.Events.{Run, nodeState, mediaMoved, foundBind, portSta
 use Rattle.machine.specs.Sound.{Sound}
 use Rattle.machine.specs.declared.Document.{Document}
 use Rattle.starting.specs.Queues.{queueOf, queueMoved, MediaOfStart}
-use Rattle.starting.specs.Choosing.{childFound, FoundChildren}
-use Rattle.starting.specs.Reaching.{startOf, Ways, waysOf, WaysIn, Deeper, Leads, Room, Reached, contextBy, switchBy}
+use Rattle.choosing.specs.Choosing.{childFound, FoundChildren}
+use Rattle.starting.specs.Reaching.{startOf, StartTables, tablesOfStart, StartTablesOf, LaterChild, LaterChildren, Room, Reached, contextBy, switchBy}
 use Rattle.starting.specs.declared.Queue.{Queue}
 use Rattle.starting.specs.declared.reaching.Start.{Start}
 use Rattle.starting.specs.declared.reaching.Start.the-variants.{Nothing, Media, Context, Switch}
-use Rattle.starting.proofs.ChoiceLaws.{bind-own}
-use Rattle.starting.proofs.QueueLaws.{awake-stays, room-more, ahead-more, ahead-none}
+use Rattle.choosing.proofs.ChoiceLaws.{bind-own}
+use Rattle.starting.proofs.QueueLaws.{awake-stays, room-more, run-more, run-none}
 
 -- the tables of a document
-abbrev waysIn : Document → List ℕ → Ways
-waysIn d chosen = waysOf (d .ports .count) (d .ports .contexts) (d .ports .children) (d .nodes .types) chosen
+abbrev tablesIn : Document → List ℕ → StartTables
+tablesIn d chosen = tablesOfStart (d .ports .count) (d .ports .contexts) (d .ports .children) (d .nodes .types) chosen
 
 -- ---- one level of a start, by what it finds
 
@@ -52,34 +52,34 @@ started-from d levels n r h =
 
 -- ---- a child that is reached or not: what is found there, and the start of it
 
--- what lies there is deeper, and a media that is found sleeps
+-- what lies there is later, and a media that is found sleeps
 abbrev pub Finds : ℕ → ℕ → ℕ → Start → Type 0
 Finds n child state Nothing = Unit
-Finds n child state Media = Deeper n child × (state ≡ sleeping)
-Finds n child state Context = Deeper n child
-Finds n child state Switch = Deeper n child
+Finds n child state Media = LaterChild n child × (state ≡ sleeping)
+Finds n child state Context = LaterChild n child
+Finds n child state Switch = LaterChild n child
 
 abbrev pub childBy : Bool → ℕ → Document → ℕ → Run → Run
 childBy reached child d levels r = if reached then started d levels child r else r
 
 -- the tables after it
-abbrev pub After : Ways → ℕ → Start → List ℕ → List ℕ → ℕ → List ℕ → List ℕ → ℕ → Type 0
+abbrev pub After : StartTables → ℕ → Start → List ℕ → List ℕ → ℕ → List ℕ → List ℕ → ℕ → Type 0
 After w child Nothing states media count states' media' count' = (states' ≡ states) × (media' ≡ media) × (count' ≡ count)
 After w child Media states media count states' media' count' = (states' ≡ set states child occurring) × (media' ≡ set media count child) × (count' ≡ count + 1)
 After w child Context states media count states' media' count' = Reached w child (contextBy child) states (queueOf media count) states' (queueOf media' count')
 After w child Switch states media count states' media' count' = Reached w child (switchBy child) states (queueOf media count) states' (queueOf media' count')
 
-from-start : (w : Ways) (n child : ℕ) (states media : List ℕ) (count : ℕ) (start : Start) {states' media' : List ℕ} {count' : ℕ} → Finds n child (getD states child 0) start → Room states (queueOf media count)
+from-start : (w : StartTables) (n child : ℕ) (states media : List ℕ) (count : ℕ) (start : Start) {states' media' : List ℕ} {count' : ℕ} → Finds n child (getD states child 0) start → Room states (queueOf media count)
     → After w child start states media count states' media' count' → Reached w n (fromStart start child) states (queueOf media count) states' (queueOf media' count')
-from-start w n child states media count Nothing f room e = rw (e .0, e .1, e .2) (record { room = room; ahead = λ d s x i a levels b. a })
+from-start w n child states media count Nothing f room e = rw (e .0, e .1, e .2) (record { room = room; run = λ d s x i a levels b. a })
 from-start w n child states media count Media f room e =
     rw (e .0, e .1, e .2)
-    (record { room = room-more states media count child room (f .0 .below) (f .1); ahead = λ d s x i a levels b. ahead-more states media count child room (f .0 .below) (f .1) d s x a })
-from-start w n child states media count Context f room r = record { room = r .room; ahead = λ d s x i a levels b. r .ahead d s x i a (levels - 1) (omega (arith, f)) }
-from-start w n child states media count Switch f room r = record { room = r .room; ahead = λ d s x i a levels b. r .ahead d s x i a (levels - 1) (omega (arith, f)) }
+    (record { room = room-more states media count child room (f .0 .below) (f .1); run = λ d s x i a levels b. run-more states media count child room (f .0 .below) (f .1) d s x a })
+from-start w n child states media count Context f room r = record { room = r .room; run = λ d s x i a levels b. r .run d s x i a (levels - 1) (omega (arith, f)) }
+from-start w n child states media count Switch f room r = record { room = r .room; run = λ d s x i a levels b. r .run d s x i a (levels - 1) (omega (arith, f)) }
 
-module _ (w : Ways) (n child : ℕ) (reached : Bool) (states : List ℕ) (start : Start) (is : start ≡ startOf reached (getD (w .types) child 0) (getD states child 0))
-    (deeper : reached ≡ true → Deeper n child) where
+module _ (w : StartTables) (n child : ℕ) (reached : Bool) (states : List ℕ) (start : Start) (is : start ≡ startOf reached (getD (w .types) child 0) (getD states child 0))
+    (is-later : reached ≡ true → LaterChild n child) where
   pub finds : Finds n child (getD states child 0) start
   unfolding startOf if_then_else_
   finds =
@@ -87,7 +87,7 @@ module _ (w : Ways) (n child : ℕ) (reached : Bool) (states : List ℕ) (start 
       (by-test reached
       (λ r. rw r
       (by-test (getD states child 0 =? sleeping)
-      (λ e. rw e (by-test (getD (w .types) child 0 =? media) (λ f. rw f (deeper r, eqb-true _ _ e)) (λ f. rw f (by-test (getD (w .types) child 0 =? context) (λ g. rw g (deeper r)) (λ g. rw g (deeper r))))))
+      (λ e. rw e (by-test (getD (w .types) child 0 =? media) (λ f. rw f (is-later r, eqb-true _ _ e)) (λ f. rw f (by-test (getD (w .types) child 0 =? context) (λ g. rw g (is-later r)) (λ g. rw g (is-later r))))))
       (λ e. rw e tt)))
       (λ r. rw r tt))
 
@@ -98,11 +98,11 @@ module _ (w : Ways) (n child : ℕ) (reached : Bool) (states : List ℕ) (start 
         let turn = from-start w n child states media count start finds room after in
         record {
           room = turn .room;
-          ahead = λ d s x i a levels b.
+          run = λ d s x i a levels b.
               let found : start ≡ startOf reached (typeOf (d .nodes) child) (nodeState (x .state) child) = is ∙ rw (i .types, a .nodes) in
               let same : childBy reached child d levels x ≡ fromStart start child d levels x
-              = by-test reached (λ r. rw (found, r) (started-from d levels child x (omega (arith, deeper r)))) (λ r. rw (found, r)) in
-              rw same (turn .ahead d s x i a levels b);
+              = by-test reached (λ r. rw (found, r) (started-from d levels child x (omega (arith, is-later r)))) (λ r. rw (found, r)) in
+              rw same (turn .run d s x i a levels b);
         }
 
 -- ---- the ports of context n
@@ -110,48 +110,48 @@ module _ (w : Ways) (n child : ℕ) (reached : Bool) (states : List ℕ) (start 
 abbrev pub portsBy : ℕ → ℕ → Document → ℕ → Run → Run
 portsBy n p d levels r = ascending (portStarted d (started d levels) n) p r
 
-module _ (w : Ways) (n : ℕ) (states : List ℕ) (q : Queue) where
+module _ (w : StartTables) (n : ℕ) (states : List ℕ) (q : Queue) where
   pub ports-none : Room states q → Reached w n (portsBy n 0) states q states q
   unfolding ascending
-  ports-none room = record { room = room; ahead = λ d s x i a levels b. a }
+  ports-none room = record { room = room; run = λ d s x i a levels b. a }
 
   module _ (p : ℕ) {states' : List ℕ} {q' : Queue} (before : Reached w n (portsBy n p) states q states' q') where
     pub ports-done : p ≡ w .ports .count → Reached w n (contextBy n) states q states' q'
     unfolding contextStarted
     ports-done e = record {
       room = before .room;
-      ahead = λ d s x i a levels b.
+      run = λ d s x i a levels b.
           let all : p ≡ d .ports .count = rw (i .ports) e in
-          rw (← ascending-done (portStarted d (started d levels) n) p (d .ports .count) x all refl) (before .ahead d s x i a levels b);
+          rw (← ascending-done (portStarted d (started d levels) n) p (d .ports .count) x all refl) (before .run d s x i a levels b);
     }
 
 -- port p, with the context and the child that it names
-module _ (w : Ways) (leads : Leads w) (n p of child : ℕ) (h : p < w .ports .count) (same-context : of ≡ portAt (w .ports) p .context) (same-child : child ≡ portAt (w .ports) p .child)
+module _ (w : StartTables) (later : LaterChildren w) (n p of child : ℕ) (h : p < w .ports .count) (same-context : of ≡ portAt (w .ports) p .context) (same-child : child ≡ portAt (w .ports) p .child)
     (states : List ℕ) (start : Start) (is : start ≡ startOf (of =? n) (getD (w .types) child 0) (getD states child 0)) where
-  port-deeper : of =? n ≡ true → Deeper n child
-  port-deeper e = record { later = omega (arith, leads .port p h, eqb-true of n e); below = omega (arith, leads .port p h) }
+  port-later : of =? n ≡ true → LaterChild n child
+  port-later e = record { later = omega (arith, later .port p h, eqb-true of n e); below = omega (arith, later .port p h) }
 
   pub port-finds : Finds n child (getD states child 0) start
-  port-finds = finds w n child (of =? n) states start is port-deeper
+  port-finds = finds w n child (of =? n) states start is port-later
 
   pub port-turn : {states₀ media₀ media states' media' : List ℕ} {count₀ count count' : ℕ} → Reached w n (portsBy n p) states₀ (queueOf media₀ count₀) states (queueOf media count)
       → After w child start states media count states' media' count' → Reached w n (portsBy n (p + 1)) states₀ (queueOf media₀ count₀) states' (queueOf media' count')
   unfolding portStarted
   port-turn {media} {count} before after =
-      let turn = child-reached w n child (of =? n) states start is port-deeper media count (before .room) after in
+      let turn = child-reached w n child (of =? n) states start is port-later media count (before .room) after in
       record {
         room = turn .room;
-        ahead = λ d s x i a levels b.
+        run = λ d s x i a levels b.
             let step : ℕ → Run → Run = portStarted d (started d levels) n in
             let y = ascending step p x in
             let one : childBy (of =? n) child d levels y ≡ step p y = rw (i .ports, ← same-context, ← same-child) in
-            rw (← ascending-more step p x refl one) (turn .ahead d s y i (before .ahead d s x i a levels b) levels b);
+            rw (← ascending-more step p x refl one) (turn .run d s y i (before .run d s x i a levels b) levels b);
       }
 
 -- ---- the child of switch n
 
-module _ (w : Ways) (n child : ℕ) (h : n < 64) (same : child ≡ getD (w .chosen) n 0) where
-  switch-started : (d : Document) (values : List ℤ) → WaysIn d values w → (start : ℕ → Run → Run) (x : Run) → x .state .properties .values ≡ values
+module _ (w : StartTables) (n child : ℕ) (h : n < 64) (same : child ≡ getD (w .chosen) n 0) where
+  switch-started : (d : Document) (values : List ℤ) → StartTablesOf d values w → (start : ℕ → Run → Run) (x : Run) → x .state .properties .values ≡ values
       → switchStarted d start n x ≡ (if not (child =? 0) then start child x else x)
   unfolding switchStarted childFound if_then_else_
   switch-started d values i start x v =
@@ -167,31 +167,31 @@ module _ (w : Ways) (n child : ℕ) (h : n < 64) (same : child ≡ getD (w .chos
       let e : child ≡ 0 = c ∙ rw f in
       rw (f, eq-eqb child 0 e)))
 
-  module _ (leads : Leads w) (states : List ℕ) (start : Start) (is : start ≡ startOf (not (child =? 0)) (getD (w .types) child 0) (getD states child 0)) where
-    choice-deeper : not (child =? 0) ≡ true → Deeper n child
-    choice-deeper e = rw same (leads .choice n h (rw same at (eqb-false child 0 (not-true _ e))))
+  module _ (later : LaterChildren w) (states : List ℕ) (start : Start) (is : start ≡ startOf (not (child =? 0)) (getD (w .types) child 0) (getD states child 0)) where
+    choice-later : not (child =? 0) ≡ true → LaterChild n child
+    choice-later e = rw same (later .choice n h (rw same at (eqb-false child 0 (not-true _ e))))
 
     pub choice-finds : Finds n child (getD states child 0) start
-    choice-finds = finds w n child (not (child =? 0)) states start is choice-deeper
+    choice-finds = finds w n child (not (child =? 0)) states start is choice-later
 
     pub choice-turn : {media states' media' : List ℕ} {count count' : ℕ} → Room states (queueOf media count)
         → After w child start states media count states' media' count' → Reached w n (switchBy n) states (queueOf media count) states' (queueOf media' count')
     choice-turn {media} {count} room after =
-        let turn = child-reached w n child (not (child =? 0)) states start is choice-deeper media count room after in
+        let turn = child-reached w n child (not (child =? 0)) states start is choice-later media count room after in
         record {
           room = turn .room;
-          ahead = λ d s x i a levels b. rw (switch-started d _ i (started d levels) x (a .values)) (turn .ahead d s x i a levels b);
+          run = λ d s x i a levels b. rw (switch-started d _ i (started d levels) x (a .values)) (turn .run d s x i a levels b);
         }
 
-  pub choice-below : Leads w → child < 64
-  choice-below leads = by-test (child =? 0) (λ e. omega (arith, eqb-true child 0 e)) (λ e. rw same (leads .choice n h (rw same at (eqb-false child 0 e)) .below))
+  pub choice-below : LaterChildren w → child < 64
+  choice-below later = by-test (child =? 0) (λ e. omega (arith, eqb-true child 0 e)) (λ e. rw same (later .choice n h (rw same at (eqb-false child 0 e)) .below))
 
 -- ---- the tables of a document
 
 module _ (d : Document) (sound : Sound d) (values : List ℤ) (chosen : List ℕ) (found : FoundChildren (d .binds) (d .rules) values chosen) where
-  pub leads-on : Leads (waysIn d chosen)
+  pub later-children : LaterChildren (tablesIn d chosen)
   unfolding childFound if_then_else_
-  leads-on = record {
+  later-children = record {
     few = sound .ports;
     port = λ p h. record { later = sound .port-later p h; below = omega (arith, sound .port-child p h, sound .nodes .few) };
     choice = λ n h some.
@@ -222,10 +222,10 @@ module _ (d : Document) (states : List ℕ) (values : List ℤ) (n : ℕ) (start
   }
 
   pub below-reached : (sound : Sound d) (chosen : List ℕ) → FoundChildren (d .binds) (d .rules) values chosen → (step : Document → ℕ → Run → Run) {states' : List ℕ} {q : Queue}
-      → Reached (waysIn d chosen) n step states (queueOf (replicate 64 0) 0) states' q → ((r : Run) → fromStart start n d 64 r ≡ step d 63 r) → MediaOfStart d states values n q
+      → Reached (tablesIn d chosen) n step states (queueOf (replicate 64 0) 0) states' q → ((r : Run) → fromStart start n d 64 r ≡ step d 63 r) → MediaOfStart d states values n q
   below-reached sound chosen found step reached level = record {
     places = record { few = omega (arith, reached .room .most); ids = reached .room .ids };
     run = λ r e v.
-        let i : WaysIn d (r .state .properties .values) (waysIn d chosen) = record { sound = sound; ports = refl; types = refl; chosen = rw v found } in
-        start-found r e ∙ level r ∙ reached .ahead d r r i (rw (← e) (ahead-none (d .anchors) r)) 63 (omega arith) .run;
+        let i : StartTablesOf d (r .state .properties .values) (tablesIn d chosen) = record { sound = sound; ports = refl; types = refl; chosen = rw v found } in
+        start-found r e ∙ level r ∙ reached .run d r r i (rw (← e) (run-none (d .anchors) r)) 63 (omega arith) .run;
   }

@@ -11,11 +11,12 @@ use Rattle.machine.specs.Terms.{context, media, sleeping, toStart}
 use Rattle.machine.specs.Tables.{portAt}
 use Rattle.machine.specs.Events.{Run, awake, contextStarted, switchStarted, started}
 use Rattle.machine.specs.Sound.{Sound}
+use Rattle.machine.specs.OfColumns.{portsOf}
 use Rattle.machine.specs.declared.Anchors.{Anchors}
 use Rattle.machine.specs.declared.Ports.{Ports}
 use Rattle.machine.specs.declared.Document.{Document}
+use Rattle.choosing.specs.Choosing.{FoundChildren}
 use Rattle.starting.specs.Queues.{queueMoved}
-use Rattle.starting.specs.Choosing.{FoundChildren}
 use Rattle.starting.specs.declared.Queue.{Queue}
 use Rattle.starting.specs.declared.reaching.Start.{Start}
 
@@ -30,30 +31,30 @@ startOf reached type state =
 
 -- ---- the tables that a start goes by: the ports, the types of nodes, and the child that each switch finds
 
-pub record Ways : Type 0 where
+pub record StartTables : Type 0 where
   pub ports : Ports
   pub types : List ℕ
   pub chosen : List ℕ
 
-abbrev pub waysOf : ℕ → List ℕ → List ℕ → List ℕ → List ℕ → Ways
-waysOf count contexts children types chosen = record { ports = record { count = count; contexts = contexts; children = children }; types = types; chosen = chosen }
+abbrev pub tablesOfStart : ℕ → List ℕ → List ℕ → List ℕ → List ℕ → StartTables
+tablesOfStart count contexts children types chosen = record { ports = portsOf count contexts children; types = types; chosen = chosen }
 
 -- they are those of a document on these values
-pub record WaysIn (d : Document) (values : List ℤ) (w : Ways) : Type 0 where
+pub record StartTablesOf (d : Document) (values : List ℤ) (w : StartTables) : Type 0 where
   pub sound : Sound d
   pub ports : d .ports ≡ w .ports
   pub types : d .nodes .types ≡ w .types
   pub chosen : FoundChildren (d .binds) (d .rules) values (w .chosen)
 
-pub record Deeper (n child : ℕ) : Type 0 where
+pub record LaterChild (n child : ℕ) : Type 0 where
   pub later : n < child
   pub below : child < 64
 
--- they lead to later ids
-pub record Leads (w : Ways) : Type 0 where
+-- ports and switches have later nodes as children
+pub record LaterChildren (w : StartTables) : Type 0 where
   pub few : w .ports .count ≤ 64
-  pub port : (p : ℕ) → p < w .ports .count → Deeper (portAt (w .ports) p .context) (portAt (w .ports) p .child)
-  pub choice : (n : ℕ) → n < 64 → (getD (w .chosen) n 0 ≡ 0 → ⊥) → Deeper n (getD (w .chosen) n 0)
+  pub port : (p : ℕ) → p < w .ports .count → LaterChild (portAt (w .ports) p .context) (portAt (w .ports) p .child)
+  pub choice : (n : ℕ) → n < 64 → (getD (w .chosen) n 0 ≡ 0 → ⊥) → LaterChild n (getD (w .chosen) n 0)
 
 -- ---- the queue
 
@@ -69,17 +70,17 @@ pub record Room (states : List ℕ) (q : Queue) : Type 0 where
   pub most : q .count + sleepers states ≤ 64
   pub ids : (i : ℕ) → i < q .count → getD (q .media) i 0 < 64
 
--- from run s the queue leads to run x, which has these states
-pub record Ahead (anchors : Anchors) (s : Run) (states : List ℕ) (q : Queue) (x : Run) : Type 0 where
+-- the start of the queue's media makes run x of run s, and x has these states
+pub record QueueRun (anchors : Anchors) (s : Run) (states : List ℕ) (q : Queue) (x : Run) : Type 0 where
   pub run : x ≡ queueMoved anchors toStart q s
   pub nodes : x .state .nodes .states ≡ states
   pub values : x .state .properties .values ≡ s .state .properties .values
 
--- the states and the queue before a step on node n, and after it: wherever the queue led to, it leads on by the step, of so many levels
-pub record Reached (w : Ways) (n : ℕ) (step : Document → ℕ → Run → Run) (states : List ℕ) (q : Queue) (states' : List ℕ) (q' : Queue) : Type 0 where
+-- the states and the queue before a step on node n, and after it: the run that the queue makes then is the step, of so many levels, of the run that it made before
+pub record Reached (w : StartTables) (n : ℕ) (step : Document → ℕ → Run → Run) (states : List ℕ) (q : Queue) (states' : List ℕ) (q' : Queue) : Type 0 where
   pub room : Room states' q'
-  pub ahead : (d : Document) (s x : Run) → WaysIn d (s .state .properties .values) w → Ahead (d .anchors) s states q x
-      → (levels : ℕ) → 64 ≤ n + (levels + 1) → Ahead (d .anchors) s states' q' (step d levels x)
+  pub run : (d : Document) (s x : Run) → StartTablesOf d (s .state .properties .values) w → QueueRun (d .anchors) s states q x
+      → (levels : ℕ) → 64 ≤ n + (levels + 1) → QueueRun (d .anchors) s states' q' (step d levels x)
 
 abbrev pub contextBy : ℕ → Document → ℕ → Run → Run
 contextBy n d levels x = contextStarted d (started d levels) n x

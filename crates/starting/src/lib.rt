@@ -1,5 +1,4 @@
 // Which media the start of a node reaches, in which order. Nothing is started here: the answer is a queue of media.
-mod choosing;
 mod reaching;
 
 use choosing::found_children;

@@ -7,7 +7,7 @@ ghost use Prim.Native.Nat.{_+_, _<_};
 ghost use lib.ListN.{getD, set};
 ghost use Rattle.machine.specs.Terms.{sleeping, occurring};
 ghost use Rattle.starting.specs.Queues.{queueOf};
-ghost use Rattle.starting.specs.Reaching.{startOf, waysOf, Leads, Room, Reached, contextBy, switchBy};
+ghost use Rattle.starting.specs.Reaching.{startOf, tablesOfStart, LaterChildren, Room, Reached, contextBy, switchBy};
 
 // What a start finds at a node: a sleeping media, context or switch, or nothing that it would change.
 pub enum Start {
@@ -59,9 +59,9 @@ pub fn start_context<'a>(
     count: usize,
     n: usize,
 ) -> usize
-    requires { ⌜ Leads (waysOf ports (now contexts) (now children) (now types) (now chosen))
+    requires { ⌜ LaterChildren (tablesOfStart ports (now contexts) (now children) (now types) (now chosen))
         × Room (now states) (queueOf (now media) count) ⌝ }
-    ensures { λ r. ⌜ Reached (waysOf ports (now (contexts .entry)) (now (children .entry)) (now (types .entry))
+    ensures { λ r. ⌜ Reached (tablesOfStart ports (now (contexts .entry)) (now (children .entry)) (now (types .entry))
         (now (chosen .entry))) n (contextBy n)
         (now (states .entry)) (queueOf (now (media .entry)) count) (now (states .exit))
         (queueOf (now (media .exit)) r) ⌝ }
@@ -116,9 +116,9 @@ pub fn start_switch<'a>(
     count: usize,
     n: usize,
 ) -> usize
-    requires { ⌜ Leads (waysOf ports (now contexts) (now children) (now types) (now chosen))
+    requires { ⌜ LaterChildren (tablesOfStart ports (now contexts) (now children) (now types) (now chosen))
         × Room (now states) (queueOf (now media) count) × (n < 64) ⌝ }
-    ensures { λ r. ⌜ Reached (waysOf ports (now (contexts .entry)) (now (children .entry)) (now (types .entry))
+    ensures { λ r. ⌜ Reached (tablesOfStart ports (now (contexts .entry)) (now (children .entry)) (now (types .entry))
         (now (chosen .entry))) n (switchBy n)
         (now (states .entry)) (queueOf (now (media .entry)) count) (now (states .exit))
         (queueOf (now (media .exit)) r) ⌝ }

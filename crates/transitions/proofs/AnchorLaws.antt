@@ -11,7 +11,7 @@ use Rattle.machine.specs.Terms.{noTransition}
 use Rattle.machine.specs.Tables.{anchorAt}
 use Rattle.machine.specs.Events.{Run, anchorState, transition, anchorTo, anchorChanged, anchorMoved}
 use Rattle.machine.specs.declared.Anchors.{Anchors}
-use Rattle.transitions.specs.Moves.{dueAt, dueNext}
+use Rattle.transitions.specs.Due.{dueAt, dueNext}
 
 -- an anchor that does not move has no transition
 changed-if : (b aborting : Bool) (a new : ℕ) (r : Run)

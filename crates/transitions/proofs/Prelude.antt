@@ -4,7 +4,7 @@ pub use Prim.Native.Nat.{_≤_, _-_}
 pub use native.Mathlib.Omega.{arith}
 pub use lib.ListN.{length}
 pub use borrow.Author.Needs.{needs}
-pub use borrow.Author.Tests.{le-leb, lt-leb, eq-eqb, ne-eqb}
+pub use borrow.Author.Tests.{eq-eqb, ne-eqb}
 unfoldable pub use Rattle.base.specs.Tests.{if_then_else_}
 unfoldable pub use Rattle.base.specs.Loops.{ascending}
 pub use Rattle.base.specs.Loops.{ascending-none, ascending-more, ascending-done}

@@ -1,63 +1,24 @@
 // The anchors of a media.
-use super::node::count_after;
-use super::node::transition_of;
 use base::index_of;
+use changes::Moving;
+use changes::anchor_transition;
+use changes::count_after;
 use log::Written;
 use log::emit;
 use machine::terms;
 ghost use mathlib.Core.Path.{_≡_};
-ghost use mathlib.Core.Bool.{_&&_, _||_};
+ghost use mathlib.Core.Bool.{_||_};
 ghost use Prim.Native.Nat.{ℕ, _+_, _<_, _≤_};
 ghost use lib.ListN.{getD};
-ghost use Rattle.base.specs.Tests.{if_then_else_, _=?_};
+ghost use Rattle.base.specs.Tests.{_=?_};
 ghost use Rattle.base.specs.Marks.{Marked};
-ghost use Rattle.machine.specs.Terms.{noTransition};
-ghost use Rattle.machine.specs.Events.{transition, anchorsMoved};
+ghost use Rattle.machine.specs.Events.{anchorsMoved};
 ghost use Rattle.machine.specs.declared.NodeEvents.{NodeEvents};
+ghost use Rattle.machine.specs.OfColumns.{anchorEventsOf, anchorsOf};
 ghost use Rattle.log.specs.LogSlice.{logOf};
-ghost use Rattle.transitions.specs.Lent.{Rest, runWith, anchorEvents, anchorsOf};
-ghost use Rattle.transitions.specs.Moves.{moves, dueNext};
-
-// Which anchors of a media move: those that begin at a clock, those awake that end at it, those awake.
-pub enum Moving {
-    BeginningAt(u16),
-    EndingAt(u16),
-    Awake,
-}
-
-// Whether an anchor moves.
-fn moves(moving: Moving, begin: u16, end: u16, state: u8) -> bool
-    ensures { λ r. ⌜ r ≡ moves moving begin end state ⌝ }
-{
-    match moving {
-        Moving::BeginningAt(clock) => begin == clock,
-        Moving::EndingAt(clock) => (state != terms::SLEEPING) & (end == clock),
-        Moving::Awake => state != terms::SLEEPING,
-    }
-}
-
-// The transition of an anchor of a media to the new state; none if it is not one of media n that move.
-fn anchor_transition(
-    moving: Moving,
-    aborting: bool,
-    n: usize,
-    media: u8,
-    begin: u16,
-    end: u16,
-    state: u8,
-    new: u8,
-) -> u8
-    ensures { λ r. ⌜ r ≡ (if media =? n && moves moving begin end state
-        then transition aborting state new else noTransition) ⌝ }
-{
-    if index_of(media) != n {
-        return terms::NO_TRANSITION;
-    }
-    if moves(moving, begin, end, state) {
-        return transition_of(aborting, state, new);
-    }
-    terms::NO_TRANSITION
-}
+ghost use Rattle.changes.specs.Moves.{moves};
+ghost use Rattle.transitions.specs.Lent.{Rest, runWith};
+ghost use Rattle.transitions.specs.Due.{dueNext};
 
 // The anchors of media n that move go to the state, in id order; of so many anchors, with these media, begins and ends.
 pub fn move_anchors<'a>(
@@ -76,10 +37,10 @@ pub fn move_anchors<'a>(
 ) -> Written
     requires { ⌜ anchors ≤ 128 ⌝ }
     ensures { λ w. ⌜ ((nodes : NodeEvents) (rest : Rest)
-        → runWith nodes (anchorEvents (now (states .exit)) (now (counts .exit))) rest (logOf w (now (log .exit)))
+        → runWith nodes (anchorEventsOf (now (states .exit)) (now (counts .exit))) rest (logOf w (now (log .exit)))
         ≡ anchorsMoved (anchorsOf anchors (now (media .entry)) (now (begins .entry)) (now (ends .entry)))
         (moves moving) aborting n state
-        (runWith nodes (anchorEvents (now (states .entry)) (now (counts .entry))) rest
+        (runWith nodes (anchorEventsOf (now (states .entry)) (now (counts .entry))) rest
         (logOf written (now (log .entry))))) ⌝ }
 {
     let mut t = written;

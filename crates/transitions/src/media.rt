@@ -1,7 +1,9 @@
 // An action on a media.
-use super::anchors::Moving;
 use super::anchors::move_anchors;
 use super::node::node_to;
+use changes::Moving;
+use changes::following;
+use changes::line_first;
 use log::Written;
 use machine::terms;
 use records::tables::next_state;
@@ -9,32 +11,12 @@ ghost use mathlib.Core.Path.{_≡_};
 ghost use Prim.Native.Nat.{_<_, _≤_};
 ghost use Rattle.machine.specs.Terms.{toStart, toResume};
 ghost use Rattle.machine.specs.Tables.{durationOf};
-ghost use Rattle.machine.specs.Events.{follows, lineFirst, mediaMoved};
+ghost use Rattle.machine.specs.Events.{mediaMoved};
 ghost use Rattle.machine.specs.Tick.{passed};
 ghost use Rattle.machine.specs.declared.Document.{Document};
+ghost use Rattle.machine.specs.OfColumns.{nodeEventsOf, anchorEventsOf, anchorsOf};
 ghost use Rattle.log.specs.LogSlice.{logOf};
-ghost use Rattle.transitions.specs.Lent.{Rest, runWith, nodeEvents, anchorEvents, anchorsOf};
-ghost use Rattle.transitions.specs.Moves.{moves};
-
-// Whether the media's line goes before those of its anchors.
-fn line_first(action: u8) -> bool
-    ensures { λ r. ⌜ r ≡ lineFirst action ⌝ }
-{
-    if action == terms::TO_START {
-        return true;
-    }
-    action == terms::TO_RESUME
-}
-
-// The anchors that follow their media in an action.
-fn following(action: u8) -> Moving
-    ensures { λ r. ⌜ moves r ≡ follows action ⌝ }
-{
-    if action == terms::TO_START {
-        return Moving::BeginningAt(0);
-    }
-    Moving::Awake
-}
+ghost use Rattle.transitions.specs.Lent.{Rest, runWith};
 
 // An action on media n, with its anchors.
 pub fn move_media<'a>(
@@ -54,12 +36,12 @@ pub fn move_media<'a>(
 ) -> Written
     requires { ⌜ (anchors ≤ 128) × (n < 64) × (toStart ≤ action) × (action ≤ toResume) ⌝ }
     ensures { λ w. ⌜ ((rest : Rest)
-        → runWith (nodeEvents (now (states .exit)) (now (clocks .exit)) (now (counts .exit)))
-        (anchorEvents (now («anchor_states» .exit)) (now («anchor_counts» .exit))) rest
+        → runWith (nodeEventsOf (now (states .exit)) (now (clocks .exit)) (now (counts .exit)))
+        (anchorEventsOf (now («anchor_states» .exit)) (now («anchor_counts» .exit))) rest
         (logOf w (now (log .exit)))
         ≡ mediaMoved (anchorsOf anchors (now (media .entry)) (now (begins .entry)) (now (ends .entry))) action n
-        (runWith (nodeEvents (now (states .entry)) (now (clocks .entry)) (now (counts .entry)))
-        (anchorEvents (now («anchor_states» .entry)) (now («anchor_counts» .entry))) rest
+        (runWith (nodeEventsOf (now (states .entry)) (now (clocks .entry)) (now (counts .entry)))
+        (anchorEventsOf (now («anchor_states» .entry)) (now («anchor_counts» .entry))) rest
         (logOf written (now (log .entry))))) ⌝ }
 {
     let old = states[n];
@@ -125,12 +107,12 @@ pub fn pass_media<'a>(
     ensures { λ w. ⌜ ((d : Document) (rest : Rest)
         → d .anchors ≡ anchorsOf anchors (now (media .entry)) (now (begins .entry)) (now (ends .entry))
         → durationOf (d .nodes) n ≡ duration
-        → runWith (nodeEvents (now (states .exit)) (now (clocks .exit)) (now (counts .exit)))
-        (anchorEvents (now («anchor_states» .exit)) (now («anchor_counts» .exit))) rest
+        → runWith (nodeEventsOf (now (states .exit)) (now (clocks .exit)) (now (counts .exit)))
+        (anchorEventsOf (now («anchor_states» .exit)) (now («anchor_counts» .exit))) rest
         (logOf w (now (log .exit)))
         ≡ passed d n clock
-        (runWith (nodeEvents (now (states .entry)) (now (clocks .entry)) (now (counts .entry)))
-        (anchorEvents (now («anchor_states» .entry)) (now («anchor_counts» .entry))) rest
+        (runWith (nodeEventsOf (now (states .entry)) (now (clocks .entry)) (now (counts .entry)))
+        (anchorEventsOf (now («anchor_states» .entry)) (now («anchor_counts» .entry))) rest
         (logOf written (now (log .entry))))) ⌝ }
 {
     clocks[n] = clock;

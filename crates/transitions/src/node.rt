@@ -1,55 +1,17 @@
-// A transition, and a node.
+// A node.
+use changes::clock_after;
+use changes::count_after;
+use changes::transition_of;
 use log::Written;
 use log::emit;
 use machine::terms;
 ghost use mathlib.Core.Path.{_≡_};
 ghost use Prim.Native.Nat.{_<_};
-ghost use Rattle.machine.specs.Events.{transition, counted, clocked, nodeTo};
+ghost use Rattle.machine.specs.Events.{nodeTo};
 ghost use Rattle.machine.specs.declared.AnchorEvents.{AnchorEvents};
+ghost use Rattle.machine.specs.OfColumns.{nodeEventsOf};
 ghost use Rattle.log.specs.LogSlice.{logOf};
-ghost use Rattle.transitions.specs.Lent.{Rest, runWith, nodeEvents};
-
-// The transition from a state to another.
-pub fn transition_of(aborting: bool, old: u8, new: u8) -> u8
-    ensures { λ r. ⌜ r ≡ transition aborting old new ⌝ }
-{
-    if old == new {
-        return terms::NO_TRANSITION;
-    }
-    if new == terms::SLEEPING {
-        if aborting {
-            return terms::ABORTS;
-        }
-        return terms::STOPS;
-    }
-    if old == terms::SLEEPING {
-        return terms::STARTS;
-    }
-    if new == terms::OCCURRING {
-        return terms::RESUMES;
-    }
-    terms::PAUSES
-}
-
-// The occurrence count after a transition.
-pub fn count_after(change: u8, count: u32) -> u32
-    ensures { λ r. ⌜ r ≡ counted change count ⌝ }
-{
-    if change == terms::STOPS {
-        return std::num::wrapping_add_u32(count, 1);
-    }
-    count
-}
-
-// The clock after a transition.
-fn clock_after(change: u8, clock: u16) -> u16
-    ensures { λ r. ⌜ r ≡ clocked change clock ⌝ }
-{
-    if change <= terms::ABORTS {
-        return 0;
-    }
-    clock
-}
+ghost use Rattle.transitions.specs.Lent.{Rest, runWith};
 
 // Node n goes to the state.
 pub fn node_to(
@@ -64,10 +26,10 @@ pub fn node_to(
 ) -> Written
     requires { ⌜ n < 64 ⌝ }
     ensures { λ w. ⌜ ((anchors : AnchorEvents) (rest : Rest)
-        → runWith (nodeEvents (now (states .exit)) (now (clocks .exit)) (now (counts .exit))) anchors rest
+        → runWith (nodeEventsOf (now (states .exit)) (now (clocks .exit)) (now (counts .exit))) anchors rest
         (logOf w (now (log .exit)))
         ≡ nodeTo aborting n state
-        (runWith (nodeEvents (now (states .entry)) (now (clocks .entry)) (now (counts .entry))) anchors rest
+        (runWith (nodeEventsOf (now (states .entry)) (now (clocks .entry)) (now (counts .entry))) anchors rest
         (logOf written (now (log .entry))))) ⌝ }
 {
     let change = transition_of(aborting, states[n], state);

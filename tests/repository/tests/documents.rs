@@ -115,11 +115,11 @@ fn contracts_cite_the_definitions_of_their_row() {
 fn a_contract_that_cites_something_else_is_found() {
     let sources = Sources::read();
     for (definition, contract, wrong) in [
-        ("`Events.counted`", "`transitions::node::count_after`", 0),
+        ("`Events.counted`", "`changes::count_after`", 0),
         ("`Events.counted`", "`player::tick`", 0), // through what it is built from
-        ("`Events.clocked`", "`transitions::node::count_after`", 2),
-        ("`Events.counted`, `clocked`", "`transitions::node::count_after`", 1),
-        ("`Events.counted`", "`transitions::node::count_after`, `transition_of`", 1),
+        ("`Events.clocked`", "`changes::count_after`", 2),
+        ("`Events.counted`, `clocked`", "`changes::count_after`", 1),
+        ("`Events.counted`", "`changes::count_after`, `transition_of`", 1),
     ] {
         let table = format!("| definition | contract |\n|---|---|\n| {definition} | {contract} |");
         assert_eq!(uncited(&rows(&table)[0], &sources).len(), wrong, "{definition}, {contract}");

@@ -1,6 +1,5 @@
 -- `chain::hears` meets its contract. Assumes nothing.
 use borrow.Author.Tests.{eq-eqb, ne-eqb}
-use borrow.Author.Needs.{needs}
 use Rattle.chain.proofs.hears.Statement.{statement}
 use Rattle.chain.proofs.hears.Tie as tie
 

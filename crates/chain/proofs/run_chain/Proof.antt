@@ -6,10 +6,11 @@ use native.Mathlib.Nat.{sub-zero}
 use lib.ListN.{length}
 use Rattle.base.specs.Tests.{not-true, not-false}
 use Rattle.base.specs.Loops.{ascending, ascending-none, ascending-more, ascending-done}
+use Rattle.machine.specs.Events.{Run}
 use Rattle.machine.specs.Chain.{goesOn, linkTried, lineTaken, linesTaken, chained}
-use Rattle.rules.specs.Facts.{sound-rules}
+use Rattle.rules.proofs.Facts.{sound-rules}
 use Rattle.events.specs.Running.{run}
-use Rattle.log.specs.LogSlice.{lines-have, lines-lack}
+use Rattle.log.proofs.LogLaws.{lines-have, lines-lack}
 use Rattle.chain.specs.Trying.{mayFire}
 use Rattle.chain.proofs.ChainLaws.{no-actions, not-heard, may-not, fires-now, chain-more, chain-stopped, chain-ended, chain-done}
 use borrow.Author.Needs.{needs}
@@ -27,6 +28,13 @@ Inv-loop d log₀ t₀ links end room next₀ log t next = (next ≤ room) × (l
 
 abbrev μ-loop : tie.MeasureT-loop
 μ-loop d log₀ t₀ links end room next₀ log t next = room - next
+
+-- a turn of the inner loop: the function's entry, and the run before the turn
+abbrev entry : tie.At-loop2 Inv-loop2 μ-loop2 Inv-loop μ-loop → tie.Start Inv-loop2 μ-loop2 Inv-loop μ-loop
+entry a = a .before .before .before .before .before .before .before .before .before .before
+
+abbrev before : tie.At-loop2 Inv-loop2 μ-loop2 Inv-loop μ-loop → Run
+before a = run (a .loop2 .t) (a .loop2 .log)
 
 pub run-chain-spec : {M : Type 1} → statement M
 unfolding chained lineTaken goesOn mayFire
@@ -100,15 +108,15 @@ run-chain-spec =
     let the-loop2-test = c .before .before .before .before .before .before .before .before .before .before .before .before .before .before .before .before .before .before .before .loop2-test in
     let the-run-actions = c .before .before .run-actions in
     let the-begin-firing = c .before .before .before .before .before .before .before .before .begin-firing in
-    let the-loop2 = c .before .before .before .before .before .before .before .before .before .before .before .before .before .before .before .before .before .before .before .before .loop2 in
+    let a = c .before .before .before .before .before .before .before .before .before .before .before .before .before .before .before .before .before .before .before .before in
     let the-hears = c .before .before .before .before .before .before .before .before .before .before .before .before .before .before .before .hears in
     let the-if3 = c .before .before .before .before .before .before .before .before .before .before .before .before .before .before .if3 in
     let the-may-fire = c .before .before .before .before .before .before .before .before .before .before .before .may-fire in
     let the-if4 = c .before .before .before .before .before .before .before .before .before .before .if4 in (
       omega (arith, the-loop2-test),
-      the-run-actions .kept .1 .1 .0 ∙ the-begin-firing .kept .1 .0 ∙ the-loop2 .inv .1,
-      ascending-more _ _ _ (the-loop2 .inv .2)
-          (fires-now _ _ _ _ (sym (the-hears .ensures) ∙ the-if3 .taken) (sym (the-may-fire .ensures) ∙ the-if4 .taken) (the-begin-firing .ensures) (the-run-actions .ensures)),
+      the-run-actions .kept .1 .1 .0 ∙ the-begin-firing .kept .1 .0 ∙ a .loop2 .inv .1,
+      ascending-more _ _ _ (a .loop2 .inv .2)
+          (fires-now (entry a .args .d) (a .before .line-at .result) (a .loop2 .link) (before a) (the-hears .ensures) (the-if3 .taken) (the-may-fire .ensures) (the-if4 .taken) (the-begin-firing .ensures) (the-run-actions .ensures)),
     ))  -- loop2-again
     (λ c.
     let the-loop2-test = c .before .before .before .before .before .before .before .before .before .before .before .before .before .before .before .loop2-test in
@@ -116,31 +124,31 @@ run-chain-spec =
     (λ c.
     let the-loop2-test = c .before .before .before .before .before .before .before .before .before .before .before .before .before .before .before .loop2-test in
     let the-begin-firing = c .before .before .before .before .begin-firing in
-    let the-loop2 = c .before .before .before .before .before .before .before .before .before .before .before .before .before .before .before .before .loop2 in
+    let a = c .before .before .before .before .before .before .before .before .before .before .before .before .before .before .before .before in
     let the-hears = c .before .before .before .before .before .before .before .before .before .before .before .hears in
     let the-if3 = c .before .before .before .before .before .before .before .before .before .before .if3 in
     let the-may-fire = c .before .before .before .before .before .before .before .may-fire in
     let the-if4 = c .before .before .before .before .before .before .if4 in
     let the-if5 = c .if5 in (
       omega (arith, the-loop2-test),
-      the-begin-firing .kept .1 .0 ∙ the-loop2 .inv .1,
-      ascending-more _ _ _ (the-loop2 .inv .2)
-          (fires-now _ _ _ _ (sym (the-hears .ensures) ∙ the-if3 .taken) (sym (the-may-fire .ensures) ∙ the-if4 .taken) (the-begin-firing .ensures) (no-actions _ _ _ (omega (arith, the-if5 .left)))),
+      the-begin-firing .kept .1 .0 ∙ a .loop2 .inv .1,
+      ascending-more _ _ _ (a .loop2 .inv .2)
+          (fires-now (entry a .args .d) (a .before .line-at .result) (a .loop2 .link) (before a) (the-hears .ensures) (the-if3 .taken) (the-may-fire .ensures) (the-if4 .taken) (the-begin-firing .ensures) (no-actions _ _ _ (omega (arith, the-if5 .left)))),
     ))  -- loop2-again-2
     (λ c. search needs)  -- loop2-less-3
     (λ c.
-    let the-loop2 = c .before .before .before .before .before .before .before .before .before .before .loop2 in
+    let a = c .before .before .before .before .before .before .before .before .before .before in
     let the-hears = c .before .before .before .before .before .hears in
     let the-if3 = c .before .before .before .before .if3 in
     let the-may-fire = c .before .may-fire in
     let the-if4 = c .if4 in
-    (omega arith, the-loop2 .inv .1, ascending-more _ _ _ (the-loop2 .inv .2) (may-not _ _ _ _ (sym (the-hears .ensures) ∙ the-if3 .taken) (sym (the-may-fire .ensures) ∙ the-if4 .left))))  -- loop2-again-3
+    (omega arith, a .loop2 .inv .1, ascending-more _ _ _ (a .loop2 .inv .2) (may-not (entry a .args .d) (a .before .line-at .result) (a .loop2 .link) (before a) (the-hears .ensures) (the-if3 .taken) (the-may-fire .ensures) (the-if4 .left))))  -- loop2-again-3
     (λ c. search needs)  -- loop2-less-4
     (λ c.
-    let the-loop2 = c .before .before .before .before .before .before .loop2 in
+    let a = c .before .before .before .before .before .before in
     let the-hears = c .before .hears in
     let the-if3 = c .if3 in
-    (omega arith, the-loop2 .inv .1, ascending-more _ _ _ (the-loop2 .inv .2) (not-heard _ _ _ _ (sym (the-hears .ensures) ∙ the-if3 .left))))  -- loop2-again-4
+    (omega arith, a .loop2 .inv .1, ascending-more _ _ _ (a .loop2 .inv .2) (not-heard (entry a .args .d) (a .before .line-at .result) (a .loop2 .link) (before a) (the-hears .ensures) (the-if3 .left))))  -- loop2-again-4
     (λ c.
     let the-loop = c .before .loop in
     the-loop .inv .1)  -- same-length-3

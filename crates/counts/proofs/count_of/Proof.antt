@@ -4,7 +4,6 @@ use mir.Facts.{toZ-ofZ}
 use mir.Syntax.{w32}
 use Rattle.machine.specs.Counts.{countOf}
 use Rattle.counts.proofs.Places.{place}
-use borrow.Author.Needs.{needs}
 use Rattle.counts.proofs.count_of.Statement.{statement}
 use Rattle.counts.proofs.count_of.Tie as tie
 

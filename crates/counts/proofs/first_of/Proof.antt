@@ -1,7 +1,6 @@
 -- `counts::first_of` meets its contract. Assumes nothing.
 use Rattle.counts.proofs.Prelude.{if_then_else_}
 use Rattle.machine.specs.Counts.{firstFailing}
-use borrow.Author.Needs.{needs}
 use Rattle.counts.proofs.first_of.Statement.{statement}
 use Rattle.counts.proofs.first_of.Tie as tie
 

@@ -1,6 +1,6 @@
 -- `engine::refuse` meets its contract. Assumes nothing.
 use Rattle.machine.specs.Operations.{callRefused}
-use Rattle.log.specs.LogSlice.{lines-none}
+use Rattle.log.proofs.LogLaws.{lines-none}
 use borrow.Author.Needs.{needs}
 use Rattle.engine.proofs.refuse.Statement.{statement}
 use Rattle.engine.proofs.refuse.Tie as tie

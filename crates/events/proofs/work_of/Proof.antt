@@ -1,5 +1,5 @@
 -- `events::work_of` meets its contract. Assumes nothing.
-use Rattle.log.specs.LogSlice.{lines-none}
+use Rattle.log.proofs.LogLaws.{lines-none}
 use Rattle.events.proofs.work_of.Statement.{statement}
 use Rattle.events.proofs.work_of.Tie as tie
 

@@ -5,7 +5,7 @@ use native.Mathlib.Omega.{arith}
 use lib.ListN.{length, length-set}
 use borrow.Author.Needs.{needs}
 use Rattle.base.specs.Tests.{if_then_else_, _<?_}
-use Rattle.log.specs.LogSlice.{Cleared, clear-none, clear-more, clear-done}
+use Rattle.log.proofs.LogLaws.{Cleared, clear-none, clear-more, clear-done}
 use Rattle.log.proofs.clear.Statement.{statement}
 use Rattle.log.proofs.clear.Tie as tie
 

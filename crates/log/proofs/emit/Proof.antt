@@ -3,7 +3,7 @@ use mathlib.Core.Path.{_∙_}
 use native.Mathlib.Omega.{arith}
 use lib.ListN.{length-set}
 use borrow.Author.Needs.{needs}
-use Rattle.log.specs.LogSlice.{logged-fits, logged-full}
+use Rattle.log.proofs.LogLaws.{logged-fits, logged-full}
 use Rattle.log.proofs.emit.Statement.{statement}
 use Rattle.log.proofs.emit.Tie as tie
 

@@ -2,7 +2,7 @@
 use mathlib.Core.Path.{sym}
 use native.Mathlib.Omega.{arith}
 use borrow.Author.Needs.{needs}
-use Rattle.log.specs.LogSlice.{line-in}
+use Rattle.log.proofs.LogLaws.{line-in}
 use Rattle.log.proofs.line_at.Statement.{statement}
 use Rattle.log.proofs.line_at.Tie as tie
 

@@ -1,5 +1,4 @@
 -- `printed_run::go_on` meets its contract. Assumes nothing.
-use native.Mathlib.Omega.{arith}
 use mathlib.Core.List.{[], append-nil}
 use mathlib.Core.Path.{sym, _∙_}
 use Rattle.script_run.proofs.Scripts.{apart}

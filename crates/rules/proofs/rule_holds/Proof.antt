@@ -1,7 +1,7 @@
 -- `rules::rule_holds` meets its contract. Assumes nothing.
 use native.Mathlib.Omega.{arith}
-use Rattle.rules.specs.ByKind.{simple}
-use Rattle.rules.specs.Facts.{earlier, decided-right}
+use Rattle.rules.proofs.ByKind.{simple}
+use Rattle.rules.proofs.Facts.{earlier, decided-right}
 use borrow.Author.Needs.{needs}
 use Rattle.rules.proofs.rule_holds.Statement.{statement}
 use Rattle.rules.proofs.rule_holds.Tie as tie

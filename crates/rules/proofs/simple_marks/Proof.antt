@@ -2,7 +2,7 @@
 use Prim.Native.Nat.{_≤_, _-_}
 use mathlib.Core.Path.{_≡_}
 use native.Mathlib.Omega.{arith}
-use Rattle.rules.specs.ByKind.{simple}
+use Rattle.rules.proofs.ByKind.{simple}
 use Rattle.rules.specs.Memo.{Known}
 use Rattle.rules.proofs.Marks.{nothing-known, simple-known, composite-known}
 use borrow.Author.Needs.{needs}

@@ -1,7 +1,5 @@
 -- `script_run::finish` meets its contract. Assumes nothing.
-use Prim.Native.Nat.{_≤_}
-use native.Mathlib.Omega.{arith}
-use mathlib.Core.Path.{_≡_, refl, sym, _∙_}
+use mathlib.Core.Path.{refl, sym, _∙_}
 use Rattle.script_run.proofs.Scripts.{prints-nothing, cut-first}
 use borrow.Author.Needs.{needs}
 use Rattle.script_run.proofs.finish.Statement.{statement}

@@ -2,11 +2,10 @@
 use native.Mathlib.Omega.{arith}
 use Prim.Native.Nat.{_+_, _-_, _<_, _≤_}
 use mathlib.Core.Bool.{false}
-use mathlib.Core.Path.{_≡_, refl, sym, ap, _∙_}
+use mathlib.Core.Path.{_≡_, refl, sym, _∙_}
 use lib.ListN.{length, take, drop}
 use lib.Seq.{length-take-le}
 use Rattle.machine.specs.Broken.{broken}
-use Rattle.machine.specs.Operations.{CallResult}
 use Rattle.script_run.specs.Running.{GoesOn}
 use Rattle.script_run.proofs.Scripts.{lent-front, call-fits, none-run, ran-call, ran-wrong}
 use borrow.Author.Needs.{needs}

@@ -1,5 +1,7 @@
 -- `session_check::is_broken` meets its contract. Assumes nothing.
-use Rattle.session_check.proofs.Prelude.{sym, _∙_, not-true, not-false, needs}
+use mathlib.Core.Path.{sym, _∙_}
+use borrow.Author.Needs.{needs}
+use borrow.Author.Tests.{not-true, not-false}
 use Rattle.machine.specs.Broken.{broken}
 use Rattle.session_check.proofs.is_broken.Statement.{statement}
 use Rattle.session_check.proofs.is_broken.Tie as tie

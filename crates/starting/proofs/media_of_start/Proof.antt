@@ -1,9 +1,9 @@
 -- `starting::media_of_start` meets its contract. Assumes nothing.
 use Rattle.starting.proofs.Prelude.{_≡_, arith, needs, length}
-use Rattle.rules.specs.Facts.{sound-rules}
-use Rattle.starting.proofs.ChoiceLaws.{sound-binds}
+use Rattle.rules.proofs.Facts.{sound-rules}
+use Rattle.choosing.proofs.ChoiceLaws.{sound-binds}
 use Rattle.starting.proofs.QueueLaws.{room-none}
-use Rattle.starting.proofs.ReachLaws.{leads-on, nothing-reached, itself-reached, below-reached}
+use Rattle.starting.proofs.ReachLaws.{later-children, nothing-reached, itself-reached, below-reached}
 use Rattle.starting.proofs.media_of_start.Statement.{statement}
 use Rattle.starting.proofs.media_of_start.Tie as tie
 
@@ -24,14 +24,14 @@ media-of-start-spec =
     (sound-binds (the-entry .pre .0), sound-rules (the-entry .pre .0)))  -- found-children-requires
     (λ c κs.
     let the-entry = c .before .before .before .before .before .before .before .before .before .before .before .before .before .before .before in
-    let places : length (the-entry .args .t2) ≡ 64 = search (needs, the-entry .good .1 .0) in (leads-on (the-entry .args .t1) (the-entry .pre .0) _ _ (c .before .before .before .before .before .before .before .found-children .ensures), room-none _ places))  -- start-context-requires
+    let places : length (the-entry .args .t2) ≡ 64 = search (needs, the-entry .good .1 .0) in (later-children (the-entry .args .t1) (the-entry .pre .0) _ _ (c .before .before .before .before .before .before .before .found-children .ensures), room-none _ places))  -- start-context-requires
     (λ c. search needs)  -- enum-told-4
     (λ c κs.
     let the-entry = c .before .before .before .before .before .before .before in
     (sound-binds (the-entry .pre .0), sound-rules (the-entry .pre .0)))  -- found-children-requires-2
     (λ c κs.
     let the-entry = c .before .before .before .before .before .before .before .before .before .before .before .before .before .before .before in
-    let places : length (the-entry .args .t2) ≡ 64 = search (needs, the-entry .good .1 .0) in (leads-on (the-entry .args .t1) (the-entry .pre .0) _ _ (c .before .before .before .before .before .before .before .found-children2 .ensures), room-none _ places, omega (arith, the-entry .pre .0 .nodes .few)))  -- start-switch-requires
+    let places : length (the-entry .args .t2) ≡ 64 = search (needs, the-entry .good .1 .0) in (later-children (the-entry .args .t1) (the-entry .pre .0) _ _ (c .before .before .before .before .before .before .before .found-children2 .ensures), room-none _ places, omega (arith, the-entry .pre .0 .nodes .few)))  -- start-switch-requires
     (λ c. nothing-reached _ _ _ _ _ (c .before .before .start-of .ensures) (c .enum-told .given .1))  -- returns
     (λ c. itself-reached _ _ _ _ _ (c .before .before .start-of .ensures) (c .enum-told2 .given .1) (omega (arith, c .before .before .before .before .before .pre .0 .nodes .few)))  -- returns-2
     (λ c.

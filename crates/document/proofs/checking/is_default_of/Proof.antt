@@ -1,6 +1,5 @@
 -- `document::checking::is_default_of` meets its contract. Assumes nothing.
 use borrow.Author.Tests.{eq-eqb, ne-eqb}
-use borrow.Author.Needs.{needs}
 use Rattle.document.proofs.checking.is_default_of.Statement.{statement}
 use Rattle.document.proofs.checking.is_default_of.Tie as tie
 

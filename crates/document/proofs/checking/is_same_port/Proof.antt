@@ -1,6 +1,5 @@
 -- `document::checking::is_same_port` meets its contract. Assumes nothing.
 use borrow.Author.Tests.{eq-eqb, ne-eqb}
-use borrow.Author.Needs.{needs}
 use Rattle.document.proofs.checking.is_same_port.Statement.{statement}
 use Rattle.document.proofs.checking.is_same_port.Tie as tie
 

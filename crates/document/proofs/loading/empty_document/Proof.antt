@@ -1,7 +1,6 @@
 -- `document::loading::empty_document` meets its contract. Assumes nothing.
 use Rattle.machine.specs.Tables.{emptyDocument}
 use mathlib.Core.Path.{refl}
-use borrow.Author.Needs.{needs}
 use Rattle.document.proofs.loading.empty_document.Statement.{statement}
 use Rattle.document.proofs.loading.empty_document.Tie as tie
 

@@ -1,7 +1,6 @@
 -- `document::loading::new_state` meets its contract. Assumes nothing.
 use Rattle.machine.specs.Tables.{newState}
 use mathlib.Core.Path.{refl}
-use borrow.Author.Needs.{needs}
 use Rattle.document.proofs.loading.new_state.Statement.{statement}
 use Rattle.document.proofs.loading.new_state.Tie as tie
 

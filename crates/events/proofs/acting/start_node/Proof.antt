@@ -1,5 +1,5 @@
 -- `events::acting::start_node` meets its contract. Assumes nothing.
-use Rattle.events.proofs.Prelude.{refl, sym, _∙_, arith, needs}
+use Rattle.events.proofs.Prelude.{refl, sym, _∙_, needs}
 use Rattle.events.proofs.acting.start_node.Statement.{statement}
 use Rattle.events.proofs.acting.start_node.Tie as tie
 

@@ -1,5 +1,5 @@
 -- `events::media::media_below` meets its contract. Assumes nothing.
-use Rattle.events.proofs.Prelude.{_≡_, sym, _∙_, _≤_, _-_, needs, arith}
+use Rattle.events.proofs.Prelude.{sym, _∙_, _≤_, _-_, needs, arith}
 use Rattle.starting.specs.Queues.{queueOf}
 use Rattle.events.specs.Below.{MediaBelow}
 use Rattle.events.proofs.BelowQueue.{below-none, below-more, below-same, below-done}

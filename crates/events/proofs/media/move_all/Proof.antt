@@ -1,5 +1,5 @@
 -- `events::media::move_all` meets its contract. Assumes nothing.
-use Rattle.events.proofs.Prelude.{refl, _∙_, arith, needs}
+use Rattle.events.proofs.Prelude.{refl, _∙_, needs}
 use Rattle.machine.specs.Events.{allMoved}
 use Rattle.events.proofs.media.move_all.Statement.{statement}
 use Rattle.events.proofs.media.move_all.Tie as tie

@@ -3,14 +3,15 @@ use Rattle.events.proofs.Prelude.{ℕ, _≡_, refl, _∙_, _≤_, _-_, 
 use lib.ListN.{getD}
 use Rattle.machine.specs.Events.{mediaMoved}
 use Rattle.log.specs.LogSlice.{logOf}
-use Rattle.transitions.specs.Lent.{runWith, nodeEvents, anchorEvents}
+use Rattle.machine.specs.OfColumns.{nodeEventsOf, anchorEventsOf}
+use Rattle.transitions.specs.Lent.{runWith}
 use Rattle.starting.specs.Queues.{queueMoved}
 use Rattle.events.specs.Running.{restOf}
 use Rattle.events.proofs.media.move_each.Statement.{statement}
 use Rattle.events.proofs.media.move_each.Tie as tie
 
 abbrev Inv-loop : tie.InvT-loop
-Inv-loop w log₀ action anchors queue states₀ clocks₀ counts₀ anchor-states₀ anchor-counts₀ written₀ end next₀ log states clocks counts anchor-states anchor-counts written next = (next ≤ end) × (length log ≡ length log₀) × (runWith (nodeEvents states clocks counts) (anchorEvents anchor-states anchor-counts) (restOf w) (logOf written log) ≡ ascending (λ (i : ℕ). mediaMoved anchors action (getD (queue .media) i 0)) next (run w log₀))
+Inv-loop w log₀ action anchors queue states₀ clocks₀ counts₀ anchor-states₀ anchor-counts₀ written₀ end next₀ log states clocks counts anchor-states anchor-counts written next = (next ≤ end) × (length log ≡ length log₀) × (runWith (nodeEventsOf states clocks counts) (anchorEventsOf anchor-states anchor-counts) (restOf w) (logOf written log) ≡ ascending (λ (i : ℕ). mediaMoved anchors action (getD (queue .media) i 0)) next (run w log₀))
 
 abbrev μ-loop : tie.MeasureT-loop
 μ-loop w log₀ action anchors queue states₀ clocks₀ counts₀ anchor-states₀ anchor-counts₀ written₀ end next₀ log states clocks counts anchor-states anchor-counts written next = end - next

@@ -1,7 +1,6 @@
 -- `events::settling::resettles` meets its contract. Assumes nothing.
 use Rattle.events.proofs.Prelude.{eq-eqb, ne-eqb}
 use Rattle.events.specs.Parts.{resettled}
-use borrow.Author.Needs.{needs}
 use Rattle.events.proofs.settling.resettles.Statement.{statement}
 use Rattle.events.proofs.settling.resettles.Tie as tie
 

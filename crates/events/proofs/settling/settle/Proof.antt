@@ -6,7 +6,8 @@ use Prim.Native.Nat.{ℕ}
 use Rattle.machine.specs.Events.{Run, settledOne, settled}
 use Rattle.log.specs.LogSlice.{logOf}
 use Rattle.log.specs.declared.Written.{Written}
-use Rattle.transitions.specs.Lent.{runWith, nodeEvents, anchorEvents}
+use Rattle.machine.specs.OfColumns.{nodeEventsOf, anchorEventsOf}
+use Rattle.transitions.specs.Lent.{runWith}
 use Rattle.events.specs.Running.{restOf}
 use Rattle.events.specs.declared.Work.{Work}
 use Rattle.events.proofs.Gathering.{Gathered, gathered-none, gathered-all, gathered-more, settled-later, settled-moves, settled-stays}
@@ -15,7 +16,7 @@ use Rattle.events.proofs.settling.settle.Tie as tie
 
 -- the run of a working record with other node columns, lines and log
 abbrev runOn : Work → List ℕ → List ℕ → List ℕ → Written → List ℕ → Run
-runOn w states clocks counts written log = runWith (nodeEvents states clocks counts) (anchorEvents (w .«anchor_states») (w .«anchor_counts»)) (restOf w) (logOf written log)
+runOn w states clocks counts written log = runWith (nodeEventsOf states clocks counts) (anchorEventsOf (w .«anchor_states») (w .«anchor_counts»)) (restOf w) (logOf written log)
 
 abbrev Inv-loop : tie.InvT-loop
 Inv-loop w log₀ action target nodes states₀ clocks₀ counts₀ written₀ gathered₀ n₀ log states clocks counts written gathered n = (n ≤ nodes .count) × (length log ≡ length log₀) × (Gathered nodes states n gathered) × (descending (settledOne nodes action target) n (runOn w states clocks counts written log) ≡ descending (settledOne nodes action target) (nodes .count) (run w log₀))

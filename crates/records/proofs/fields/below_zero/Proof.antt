@@ -1,7 +1,7 @@
 use lib.IntN.{ℤ, negsuc}
 use Rattle.records.proofs.Negative.{minus-one-less}
 use mir.ValLaws.{toZ-ofZ}
-use mathlib.Core.Path.{_≡_, sym, ap, _∙_, subst}
+use mathlib.Core.Path.{sym, ap, _∙_, subst}
 use mir.Val.{SFits, toZ, ofZ}
 use mir.Syntax.{w32}
 use borrow.Author.Needs.{needs}

@@ -1,7 +1,7 @@
 use mir.ValLaws.{toZ-ofZ}
 use mir.Syntax.{w32}
 use Rattle.machine.specs.Fields.{signed}
-use mathlib.Core.Path.{_≡_, sym, ap, _∙_}
+use mathlib.Core.Path.{ap, _∙_}
 use borrow.Author.Needs.{needs}
 use Rattle.records.proofs.fields.i32_at.Statement.{statement}
 use Rattle.records.proofs.fields.i32_at.Tie as tie

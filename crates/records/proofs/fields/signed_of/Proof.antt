@@ -1,9 +1,8 @@
 use mir.ValLaws.{toZ-ofZ}
 use Rattle.machine.specs.Fields.{signed}
 use Rattle.base.specs.Tests.{if_then_else_}
-use borrow.Author.Tests.{le-leb, lt-leb, le-ltb, lt-ltb, eq-eqb, ne-eqb}
-use mathlib.Core.Path.{_≡_, sym, ap, _∙_}
-use mir.ValLaws.{toZ-pos}
+use borrow.Author.Tests.{le-ltb, lt-ltb}
+use mathlib.Core.Path.{_∙_}
 use mir.Syntax.{w32}
 use borrow.Author.Needs.{needs}
 use Rattle.records.proofs.fields.signed_of.Statement.{statement}

@@ -3,7 +3,7 @@ use Rattle.starting.proofs.Prelude.{ℕ, _≤_, _<_, _+_, _-_, refl, ar
 use mathlib.Core.List.{List}
 use lib.ListN.{getD}
 use Rattle.starting.specs.Queues.{queueOf}
-use Rattle.starting.specs.Reaching.{Reached, waysOf, switchBy}
+use Rattle.starting.specs.Reaching.{Reached, tablesOfStart, switchBy}
 use Rattle.starting.proofs.ReachLaws.{Finds, After, portsBy, ports-none, port-finds, port-turn, ports-done, choice-finds, choice-turn, choice-below}
 use borrow.Fn.Kinds.{In}
 use borrow.Fn.PlainCycle.{Measures, is, falls, and}
@@ -39,7 +39,7 @@ start-switch-below t = and 3 start-switch-kinds.ps (falls 3 start-switch-kinds.p
 
 abbrev start-context-Inv-loop : start-context-lts.InvT-loop
 start-context-Inv-loop ports contexts children types chosen states₀ media₀ count n t₀ next₀ states media t next =
-    (next ≤ ports) × Reached (waysOf ports contexts children types chosen) n (portsBy n next) states₀ (queueOf media₀ count) states (queueOf media t)
+    (next ≤ ports) × Reached (tablesOfStart ports contexts children types chosen) n (portsBy n next) states₀ (queueOf media₀ count) states (queueOf media t)
 
 abbrev start-context-μ-loop : start-context-lts.MeasureT-loop
 start-context-μ-loop ports contexts children types chosen states₀ media₀ count n t₀ next₀ states media t next = ports - next
@@ -65,9 +65,9 @@ module _ (t : ℕ) where
   port-step : {states' media' : List ℕ} {count' : ℕ} (i : AtPort) →
       let loop = i .before .before .before .before .before .before .before .before .loop in
       let args = i .before .before .before .before .before .before .before .before .before .args in
-      let ways = waysOf (args .ports) (args .contexts .now) (args .children .now) (args .types .now) (args .chosen .now) in
-      After ways (i .before .before .before .index-of2 .result) (i .start-of .result) (loop .states) (loop .media) (loop .t) states' media' count'
-      → Reached ways (args .n) (portsBy (args .n) (loop .next + 1)) (args .states .now) (queueOf (args .media .now) (args .count)) states' (queueOf media' count')
+      let tables = tablesOfStart (args .ports) (args .contexts .now) (args .children .now) (args .types .now) (args .chosen .now) in
+      After tables (i .before .before .before .index-of2 .result) (i .start-of .result) (loop .states) (loop .media) (loop .t) states' media' count'
+      → Reached tables (args .n) (portsBy (args .n) (loop .next + 1)) (args .states .now) (queueOf (args .media .now) (args .count)) states' (queueOf media' count')
   port-step i after =
       let at = i .before .before .before .before .before .before .before in
       port-turn _ (at .before .before .pre .1 .0) _ (at .before .loop .next) _ _ (at .loop-test .taken) (i .before .before .before .before .before .index-of .ensures .0) (i .before .before .before .index-of2 .ensures .0) _ _ (i .start-of .ensures) (at .before .loop .inv .1) after
@@ -86,9 +86,9 @@ module _ (t : ℕ) where
 
   choice-step : {states' media' : List ℕ} {count' : ℕ} (i : AtChoice) →
       let args = i .before .before .before .before .before .args in
-      let ways = waysOf (args .ports) (args .contexts .now) (args .children .now) (args .types .now) (args .chosen .now) in
-      After ways (i .before .before .before .index-of .result) (i .start-of .result) (args .states .now) (args .media .now) (args .count) states' media' count'
-      → Reached ways (args .n) (switchBy (args .n)) (args .states .now) (queueOf (args .media .now) (args .count)) states' (queueOf media' count')
+      let tables = tablesOfStart (args .ports) (args .contexts .now) (args .children .now) (args .types .now) (args .chosen .now) in
+      After tables (i .before .before .before .index-of .result) (i .start-of .result) (args .states .now) (args .media .now) (args .count) states' media' count'
+      → Reached tables (args .n) (switchBy (args .n)) (args .states .now) (queueOf (args .media .now) (args .count)) states' (queueOf media' count')
   choice-step i after =
       let entry = i .before .before .before .before .before in
       choice-turn _ _ _ (entry .pre .1 .2) (i .before .before .before .index-of .ensures .0) (entry .pre .1 .0) _ _ (i .start-of .ensures) (entry .pre .1 .1) after

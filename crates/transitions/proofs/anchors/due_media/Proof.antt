@@ -1,8 +1,8 @@
 -- `transitions::anchors::due_media` meets its contract. Assumes nothing.
 use Rattle.transitions.proofs.Prelude.{_≤_, _-_, arith, needs}
 use Rattle.base.specs.Marks.{Marked, marked-none, marked-done}
-use Rattle.transitions.specs.Lent.{anchorsOf}
-use Rattle.transitions.specs.Moves.{dueNext}
+use Rattle.machine.specs.OfColumns.{anchorsOf}
+use Rattle.transitions.specs.Due.{dueNext}
 use Rattle.transitions.proofs.AnchorLaws.{marked-due}
 use Rattle.transitions.proofs.anchors.due_media.Statement.{statement}
 use Rattle.transitions.proofs.anchors.due_media.Tie as tie

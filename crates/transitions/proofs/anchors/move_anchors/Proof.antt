@@ -3,14 +3,15 @@ use Rattle.transitions.proofs.Prelude.{_≡_, refl, _∙_, _≤_, _-_, 
 use Rattle.machine.specs.Events.{anchorMoved, anchorsMoved, anchorChanged}
 use Rattle.machine.specs.declared.NodeEvents.{NodeEvents}
 use Rattle.log.specs.LogSlice.{logOf}
-use Rattle.transitions.specs.Lent.{Rest, runWith, anchorEvents, anchorsOf}
-use Rattle.transitions.specs.Moves.{moves}
+use Rattle.machine.specs.OfColumns.{anchorEventsOf, anchorsOf}
+use Rattle.transitions.specs.Lent.{Rest, runWith}
+use Rattle.changes.specs.Moves.{moves}
 use Rattle.transitions.proofs.AnchorLaws.{anchor-moved}
 use Rattle.transitions.proofs.anchors.move_anchors.Statement.{statement}
 use Rattle.transitions.proofs.anchors.move_anchors.Tie as tie
 
 abbrev Inv-loop : tie.InvT-loop
-Inv-loop anchors media begins ends states₀ counts₀ log₀ moving aborting n state t₀ next₀ states counts log t next = (next ≤ anchors) × (length log ≡ length log₀) × ((nodes : NodeEvents) (rest : Rest) → runWith nodes (anchorEvents states counts) rest (logOf t log) ≡ ascending (anchorMoved (anchorsOf anchors media begins ends) (moves moving) aborting n state) next (runWith nodes (anchorEvents states₀ counts₀) rest (logOf t₀ log₀)))
+Inv-loop anchors media begins ends states₀ counts₀ log₀ moving aborting n state t₀ next₀ states counts log t next = (next ≤ anchors) × (length log ≡ length log₀) × ((nodes : NodeEvents) (rest : Rest) → runWith nodes (anchorEventsOf states counts) rest (logOf t log) ≡ ascending (anchorMoved (anchorsOf anchors media begins ends) (moves moving) aborting n state) next (runWith nodes (anchorEventsOf states₀ counts₀) rest (logOf t₀ log₀)))
 
 abbrev μ-loop : tie.MeasureT-loop
 μ-loop anchors media begins ends states₀ counts₀ log₀ moving aborting n state t₀ next₀ states counts log t next = anchors - next

@@ -1,0 +1,4 @@
+mod Prelude
+mod Zeros
+mod DocumentEnds
+mod Slots

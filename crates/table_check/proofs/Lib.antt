@@ -1,0 +1,4 @@
+mod Prelude
+mod Verdicts
+mod Full
+mod SamePort

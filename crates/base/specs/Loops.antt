@@ -37,6 +37,11 @@ unfoldable pub first : (ℕ → Bool) → ℕ → ℕ → ℕ
 first test zero i = i
 first test (suc k) i = if test i then i else first test k (i + 1)
 
+-- one past the last id below n that passes the test; 0 where none does
+unfoldable pub pastLast : (ℕ → Bool) → ℕ → ℕ
+pastLast test zero = 0
+pastLast test (suc k) = if test k then suc k else pastLast test k
+
 -- how many ids below n pass the test
 unfoldable pub passing : (ℕ → Bool) → ℕ → ℕ
 passing test zero = 0
@@ -60,6 +65,17 @@ module _ {A : Type 0} (step : ℕ → A → A) where
   unfolding ascending
   ascending-idle zero x idle = refl
   ascending-idle (suc n) x idle = ap (step n) (ascending-idle n x (λ k h. idle k (omega arith))) ∙ idle n (omega arith)
+
+  -- turns from k on that change nothing
+  pub ascending-within : (k n : ℕ) (x : A) → k ≤ n → ((i : ℕ) (y : A) → k ≤ i → i < n → step i y ≡ y) → ascending step k x ≡ ascending step n x
+  unfolding ascending
+  ascending-within k zero x l idle =
+      let e : k ≡ 0 = omega arith in
+      rw e
+  ascending-within k (suc n) x l idle =
+      ⊎-elim (λ e. rw e)
+      (λ (h : k < suc n). sym (idle n _ (omega arith) (omega arith)) ∙ ap (step n) (ascending-within k n x (omega arith) (λ i y p q. idle i y p (omega arith))))
+      (eq-or-lt-of-le l)
 
   -- ---- laws of `descending`
 
@@ -113,6 +129,23 @@ first-least test (suc k) i j l h e =
     (λ p. rw p l)
     (λ p. rw p (⊎-elim (λ (q : i ≡ j). absurd (false≢true (sym p ∙ rw q e)))
     (λ (q : i < j). first-least test k (i + 1) j (omega arith) (omega arith) e) (eq-or-lt-of-le l)))
+
+-- ---- laws of `pastLast`: it is at most n, and none from it on passes
+
+module _ (test : ℕ → Bool) where
+  pub pastLast-most : (n : ℕ) → pastLast test n ≤ n
+  unfolding pastLast if_then_else_
+  pastLast-most zero = omega arith
+  pastLast-most (suc n) = by-test (test n) (λ e. rw e (omega arith)) (λ e. rw e (omega (arith, pastLast-most n)))
+
+  pub pastLast-none : (n k : ℕ) → pastLast test n ≤ k → k < n → test k ≡ false
+  unfolding pastLast if_then_else_
+  pastLast-none zero k l h = absurd (omega arith)
+  pastLast-none (suc n) k l h =
+      let m : k ≤ n = omega arith in
+      by-test (test n)
+      (λ e. absurd (omega (arith, rw e at l)))
+      (λ e. ⊎-elim (λ q. rw q e) (λ (q : k < n). pastLast-none n k (rw e at l) q) (eq-or-lt-of-le m))
 
 -- ---- laws of `passing`: in a loop that counts; none passes; exactly one does, the first
 

@@ -5,12 +5,12 @@ use log::emit;
 use log::goes_on;
 use log::line_at;
 use log::meet;
-use machine::ActionRecord;
 use machine::Document;
 use machine::Line;
 use machine::Refusal;
 use machine::Rules;
 use machine::terms;
+use records::fields::action_at;
 ghost use mathlib.Core.Path.{_≡_};
 ghost use mathlib.Core.Bool.{_&&_};
 ghost use Prim.Native.Nat.{_<_};
@@ -30,19 +30,19 @@ fn run_actions(d: Document, w: Work, log: &mut [u8], l: usize) -> Work
 {
     let mut t = w;
     let links = d.links;
-    let actions = d.actions;
     let end = base::index_of(links.action_counts[l]);
     let mut next = 0;
     while next < end {
         let j = next;
         next += 1;
         if goes_on(t.written) {
-            let place = 8 * l + j;
-            let a = ActionRecord {
-                action: actions.actions[place],
-                target: actions.targets[place],
-                value: actions.values[place],
-            };
+            let a = action_at(
+                &d.actions.actions,
+                &d.actions.targets,
+                &d.actions.values,
+                l,
+                j,
+            );
             t = events::acting::act(d, t, &mut *log, a);
         }
     }

@@ -8,6 +8,7 @@ use Rattle.machine.specs.declared.Rules.{Rules}
 use Rattle.machine.specs.declared.Binds.{Binds}
 use Rattle.machine.specs.declared.Ports.{Ports}
 use Rattle.machine.specs.declared.Links.{Links}
+use Rattle.machine.specs.declared.Actions.{Actions}
 use Rattle.machine.specs.declared.NodeEvents.{NodeEvents}
 use Rattle.machine.specs.declared.AnchorEvents.{AnchorEvents}
 use Rattle.machine.specs.declared.PropertyEvents.{PropertyEvents}
@@ -46,6 +47,9 @@ linksOf count owners classes subjects transitions guards actionCounts = record {
   guards = guards;
   «action_counts» = actionCounts;
 }
+
+abbrev pub actionsOf : List ℕ → List ℕ → List ℤ → Actions
+actionsOf actions targets values = record { actions = actions; targets = targets; values = values }
 
 abbrev pub nodeEventsOf : List ℕ → List ℕ → List ℕ → NodeEvents
 nodeEventsOf states clocks counts = record { states = states; clocks = clocks; counts = counts }

@@ -6,6 +6,8 @@ ghost use lib.IntN.{pos, negsuc};
 ghost use lib.ListN.{getD};
 ghost use Rattle.base.specs.Tests.{equalInts};
 ghost use Rattle.machine.specs.Fields.{u16, u32, signed, i32};
+ghost use Rattle.machine.specs.Tables.{actionAt};
+ghost use Rattle.machine.specs.OfColumns.{actionsOf};
 ghost use Rattle.machine.specs.Records.{actionOf};
 
 pub fn byte_at(table: &[u8], at: usize) -> u8
@@ -99,5 +101,25 @@ pub fn action_of(body: &[u8]) -> ActionRecord
         action: byte_at(body, 0),
         target: byte_at(body, 1),
         value: i32_at(body, 2),
+    }
+}
+
+// Action j of link l, of these actions, targets and values.
+pub fn action_at<'a>(
+    actions: &'a [u8; 512],
+    targets: &'a [u8; 512],
+    values: &'a [i32; 512],
+    l: usize,
+    j: usize,
+) -> ActionRecord
+    requires { ⌜ 8 * l + j < 512 ⌝ }
+    ensures { λ r. ⌜ r
+        ≡ actionAt (actionsOf (now (actions .entry)) (now (targets .entry)) (now (values .entry))) l j ⌝ }
+{
+    let place = 8 * l + j;
+    ActionRecord {
+        action: actions[place],
+        target: targets[place],
+        value: values[place],
     }
 }

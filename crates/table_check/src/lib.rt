@@ -8,7 +8,6 @@ use checks::check_link;
 use checks::check_node;
 use checks::check_port;
 use checks::check_rule;
-use machine::ActionRecord;
 use machine::AnchorRecord;
 use machine::BindRecord;
 use machine::Document;
@@ -18,6 +17,7 @@ use machine::NodeRecord;
 use machine::PortRecord;
 use machine::RuleRecord;
 use machine::terms;
+use records::fields::action_at;
 use records::fields::byte_at;
 use records::fields::is_zero;
 use records::fields::number_at;
@@ -25,7 +25,7 @@ ghost use mathlib.Core.Path.{_≡_};
 ghost use Prim.Native.Nat.{_<_};
 ghost use Rattle.base.specs.Loops.{every};
 ghost use Rattle.machine.specs.Tables.{ruleAt};
-ghost use Rattle.machine.specs.OfColumns.{nodesOf, anchorsOf, rulesOf, bindsOf, portsOf};
+ghost use Rattle.machine.specs.OfColumns.{nodesOf, anchorsOf, rulesOf, bindsOf, portsOf, actionsOf};
 ghost use Rattle.machine.specs.Broken.{nodeObeys, anchorObeys, propertyObeys, ruleUnusedZero, ruleObeys, bindObeys, portObeys, actionObeys, linkObeys, tablesObey};
 
 fn nodes_obey<'a>(
@@ -253,10 +253,10 @@ fn ports_obey<'a>(
 }
 
 // The actions of one link, among so many links, nodes and properties.
-fn actions_obey(
-    actions: &[u8; 512],
-    targets: &[u8; 512],
-    values: &[i32; 512],
+fn actions_obey<'a>(
+    actions: &'a [u8; 512],
+    targets: &'a [u8; 512],
+    values: &'a [i32; 512],
     link: usize,
     count: u8,
     links: usize,
@@ -265,9 +265,7 @@ fn actions_obey(
 ) -> bool
     requires { ⌜ link < 64 ⌝ }
     ensures { λ b. ⌜ ((d : Document)
-        → d .actions .actions ≡ now (actions .entry)
-        → d .actions .targets ≡ now (targets .entry)
-        → d .actions .values ≡ now (values .entry)
+        → d .actions ≡ actionsOf (now (actions .entry)) (now (targets .entry)) (now (values .entry))
         → d .links .count ≡ links
         → d .nodes .count ≡ nodes
         → d .properties ≡ properties
@@ -282,12 +280,7 @@ fn actions_obey(
     while next < end {
         let j = next;
         next += 1;
-        let at = 8 * link + j;
-        let record = ActionRecord {
-            action: actions[at],
-            target: targets[at],
-            value: values[at],
-        };
+        let record = action_at(actions, targets, values, link, j);
         let check = check_action(j, record, links, nodes, properties);
         obey = obey & passed(check);
     }
@@ -313,9 +306,7 @@ fn links_obey<'a>(
         → d .properties ≡ properties
         → d .rules .count ≡ rules
         → d .links ≡ links
-        → d .actions .actions ≡ now (actions .entry)
-        → d .actions .targets ≡ now (targets .entry)
-        → d .actions .values ≡ now (values .entry)
+        → d .actions ≡ actionsOf (now (actions .entry)) (now (targets .entry)) (now (values .entry))
         → b ≡ every (linkObeys d) (links .count)) ⌝ }
 {
     let count = links.count;

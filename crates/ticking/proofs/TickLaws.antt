@@ -1,6 +1,6 @@
--- Laws of the tick: one media, the clocks of the others, and anchors with nothing to do.
+-- Laws of the tick: one media, and the clocks of the others.
 use mathlib.Core.Path.{_≡_, refl, sym, ap, _∙_}
-use mathlib.Core.Bool.{Bool, true, false, _&&_, _||_, and-false, false≢true}
+use mathlib.Core.Bool.{Bool, true, false, _&&_}
 use mathlib.Core.List.{List}
 use Prim.Native.Nat.{ℕ, _+_, _<_, _≤_}
 use native.Mathlib.Omega.{arith}
@@ -8,16 +8,17 @@ use borrow.Author.Tests.{ltb-true}
 use lib.ListN.{getD}
 use lib.Seq.{getD-set-other}
 use Rattle.base.specs.Tests.{if_then_else_, _=?_, _<?_}
-use Rattle.base.specs.Loops.{ascending, ascending-turns, ascending-idle, none-some}
-use Rattle.base.specs.Marks.{Marked}
-use Rattle.machine.specs.Terms.{media, sleeping, occurring}
-use Rattle.machine.specs.Tables.{typeOf, durationOf, anchorAt}
-use Rattle.machine.specs.Events.{Run, withState, nodeState, nodeClock, anchorState, awake, beginsAt, endsAt, nodeTo, nodeChanged, anchorTo, anchorChanged, anchorMoved, anchorsMoved, mediaTo, mediaMoved}
-use Rattle.machine.specs.Tick.{withClock, anchorsPassed, passed, tickedOne}
+use Rattle.base.specs.Loops.{ascending, pastLast, ascending-turns}
+use Rattle.base.specs.Marks.{LastFound}
+use Rattle.machine.specs.Terms.{media, occurring}
+use Rattle.machine.specs.Tables.{typeOf, durationOf}
+use Rattle.machine.specs.Events.{Run, nodeState, nodeClock, nodeTo, nodeChanged, anchorTo, anchorChanged, anchorMoved, anchorsMoved, mediaTo, mediaMoved}
+use Rattle.machine.specs.Tick.{anchorsPassed, passed, tickedOne}
 use Rattle.machine.specs.declared.Anchors.{Anchors}
 use Rattle.machine.specs.declared.Document.{Document}
 use Rattle.machine.proofs.Keep.{chosen}
-use Rattle.transitions.specs.Due.{dueAt, dueNext}
+use Rattle.transitions.specs.Due.{dueAt, dueNext, dueOf}
+use Rattle.transitions.specs.declared.media.Due.{Due}
 use Rattle.ticking.specs.Advancing.{advancing}
 
 pub low-clock : (type state clock : ℕ) → advancing type state clock ≡ true → clock < 65_535
@@ -72,37 +73,7 @@ later-clocks d i r =
     ascending-turns (λ k (y : Run). (j : ℕ) → k ≤ j → nodeClock (y .state) j ≡ nodeClock (r .state) j) i r (λ j h. refl)
     (λ k y h p j l. ticked-leaves d k j (λ e. omega arith) y ∙ p j (omega arith))
 
--- ---- one media: it does nothing, it passes its next clock, or it only counts
-
-neither : (a b : Bool) → a || b ≡ false → (a ≡ false) × (b ≡ false)
-neither true b e = absurd (false≢true (sym e))
-neither false b e = (refl, e)
-
--- an anchor that neither ends nor begins at a clock does not move there
-stays : (its awake ends begins : Bool) → its && (ends || begins) ≡ false → (its && (awake && ends) ≡ false) × (its && begins ≡ false)
-stays true awake ends begins e =
-    let p = neither ends begins e in
-    (rw (p .0) (and-false awake), p .1)
-stays false awake ends begins e = (refl, refl)
-
-module _ (anchors : Anchors) (n clock : ℕ) where
-  -- by its begin, its end and its state, an anchor of the media moves
-  anchorMoves : (ℕ → ℕ → ℕ → Bool) → ℕ → ℕ → Bool
-  anchorMoves moves a state = anchorAt anchors a .media =? n && moves (anchorAt anchors a .begin) (anchorAt anchors a .end) state
-
-  none-moves : (moves : ℕ → ℕ → ℕ → Bool) (new : ℕ) (r : Run) {x : Run} → x ≡ r → ((a : ℕ) → a < anchors .count → anchorMoves moves a (anchorState (r .state) a) ≡ false)
-      → x ≡ anchorsMoved anchors moves false n new r
-  unfolding anchorsMoved anchorMoved anchorMoves if_then_else_
-  none-moves moves new r e p = e ∙ sym (ascending-idle (anchorMoved anchors moves false n new) (anchors .count) r (λ a h. rw (p a h)))
-
-  -- an anchor that is not due at the clock
-  not-due : (a state : ℕ) → dueAt anchors n clock a ≡ false → (anchorMoves (endsAt clock) a state ≡ false) × (anchorMoves (beginsAt clock) a state ≡ false)
-  unfolding dueAt endsAt beginsAt anchorMoves
-  not-due a state = stays (anchorAt anchors a .media =? n) (awake state) (anchorAt anchors a .end =? clock) (anchorAt anchors a .begin =? clock)
-
-  none-due : (r : Run) → ((a : ℕ) → a < anchors .count → dueAt anchors n clock a ≡ false)
-      → r ≡ anchorsMoved anchors (beginsAt clock) false n occurring (anchorsMoved anchors (endsAt clock) false n sleeping r)
-  none-due r p = none-moves (beginsAt clock) occurring _ (none-moves (endsAt clock) sleeping r refl (λ a h. not-due a _ (p a h) .0)) (λ a h. not-due a _ (p a h) .1)
+-- ---- one media: it does nothing, or passes its next clock
 
 module _ (d : Document) (n : ℕ) (r : Run) where
   pub ticked-not : advancing (typeOf (d .nodes) n) (nodeState (r .state) n) (nodeClock (r .state) n) ≡ false → r ≡ tickedOne d n r
@@ -113,13 +84,17 @@ module _ (d : Document) (n : ℕ) (r : Run) where
   unfolding tickedOne advancing if_then_else_
   ticked-passes e p = rw e p
 
-  -- its turn comes after the media before it; the marks are by the clocks before them all
-  pub ticked-counts : (first : Run) (marks : List Bool) → advancing (typeOf (d .nodes) n) (nodeState (r .state) n) (nodeClock (r .state) n) ≡ true
-      → r ≡ ascending (tickedOne d) n first → Marked (dueNext (d .anchors) (first .state .nodes .clocks)) (d .anchors .count) marks → n < 256
-      → (getD marks n false || durationOf (d .nodes) n =? nodeClock (r .state) n + 1) ≡ false
-      → withState (withClock n (nodeClock (r .state) n + 1) (r .state)) (r .log) r ≡ tickedOne d n r
-  unfolding passed anchorsPassed dueNext if_then_else_
-  ticked-counts first marks e before m low none =
-      let p = neither (getD marks n false) (durationOf (d .nodes) n =? nodeClock (r .state) n + 1) none in
-      let same = ap (λ (x : Run). nodeClock (x .state) n) before ∙ later-clocks d n first n (omega arith) in
-      ticked-passes e (rw (p .1) (none-due (d .anchors) n _ _ (λ a h. rw same (none-some _ _ (sym (m .marked n low) ∙ p .0) a h))))
+  -- its turn comes after the media before it; what is due was found by the clocks before them all
+  module _ (first : Run) (before : r ≡ ascending (tickedOne d) n first) (low : n < 64) where
+    found-next : (times table : List ℕ) → LastFound (dueNext (d .anchors .media) times (first .state .nodes .clocks)) (d .anchors .count) table
+        → getD table n 0 ≡ pastLast (dueAt (d .anchors .media) times n (nodeClock (r .state) n + 1)) (d .anchors .count)
+    unfolding dueNext
+    found-next times table found = found .found n low ∙ rw (ap (λ (x : Run). nodeClock (x .state) n) before ∙ later-clocks d n first n (omega arith))
+
+    pub due-next : (ending beginning : List ℕ) (stops : Bool)
+        → LastFound (dueNext (d .anchors .media) (d .anchors .ends) (first .state .nodes .clocks)) (d .anchors .count) ending
+        → LastFound (dueNext (d .anchors .media) (d .anchors .begins) (first .state .nodes .clocks)) (d .anchors .count) beginning
+        → stops ≡ (durationOf (d .nodes) n =? nodeClock (r .state) n + 1)
+        → record { ending = getD ending n 0; beginning = getD beginning n 0; stops = stops } ≡ dueOf d n (nodeClock (r .state) n + 1)
+    unfolding dueOf
+    due-next ending beginning stops ends begins e = rw (found-next _ ending ends, found-next _ beginning begins, e)

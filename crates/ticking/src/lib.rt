@@ -4,7 +4,8 @@ use events::settling::settle;
 use log::emit;
 use machine::Document;
 use machine::terms;
-use transitions::anchors::due_media;
+use transitions::anchors::past_last_due;
+use transitions::media::Due;
 use transitions::media::pass_media;
 ghost use mathlib.Core.Path.{_≡_};
 ghost use Rattle.base.specs.Loops.{ascending};
@@ -26,7 +27,8 @@ fn advances(node_type: u8, state: u8, clock: u16) -> bool
     clock < 65535
 }
 
-// Every media that occurs comes to its next clock, ids ascending. Most have nothing to do there but to count.
+// Every media that occurs comes to its next clock, ids ascending. Most have nothing to do there but to count: what is due is
+// found before, in one sweep over the ends of all anchors and one over their begins.
 fn advance_all(d: Document, w: Work, log: &mut [u8]) -> Work
     requires { ⌜ Sound d ⌝ }
     ensures { λ r. ⌜ run r (now (log .exit))
@@ -39,11 +41,11 @@ fn advance_all(d: Document, w: Work, log: &mut [u8]) -> Work
     let mut anchor_states = w.anchor_states;
     let mut anchor_counts = w.anchor_counts;
     let mut written = w.written;
-    let due = due_media(
+    let ending = past_last_due(d.anchors.count, &d.anchors.media, &d.anchors.ends, &clocks);
+    let beginning = past_last_due(
         d.anchors.count,
         &d.anchors.media,
         &d.anchors.begins,
-        &d.anchors.ends,
         &clocks,
     );
     let end = nodes.count;
@@ -53,28 +55,28 @@ fn advance_all(d: Document, w: Work, log: &mut [u8]) -> Work
         next += 1;
         let clock = clocks[n];
         if advances(nodes.types[n], states[n], clock) {
-            let duration = nodes.durations[n];
             let now = clock + 1;
-            if due[n] | (duration == now) {
-                written = pass_media(
-                    d.anchors.count,
-                    &d.anchors.media,
-                    &d.anchors.begins,
-                    &d.anchors.ends,
-                    &mut states,
-                    &mut clocks,
-                    &mut counts,
-                    &mut anchor_states,
-                    &mut anchor_counts,
-                    &mut *log,
-                    written,
-                    n,
-                    duration,
-                    now,
-                );
-            } else {
-                clocks[n] = now;
-            }
+            let due = Due {
+                ending: ending[n],
+                beginning: beginning[n],
+                stops: nodes.durations[n] == now,
+            };
+            written = pass_media(
+                d.anchors.count,
+                &d.anchors.media,
+                &d.anchors.begins,
+                &d.anchors.ends,
+                &mut states,
+                &mut clocks,
+                &mut counts,
+                &mut anchor_states,
+                &mut anchor_counts,
+                &mut *log,
+                written,
+                n,
+                now,
+                due,
+            );
         }
     }
     let mut t = w;

@@ -1,17 +1,22 @@
 -- Laws of the anchors that move, and one turn of the loops over them.
-use mathlib.Core.Path.{_≡_, refl, sym, _∙_}
-use mathlib.Core.Bool.{Bool, true, false, _&&_, _||_}
+use mathlib.Core.Path.{_≡_, refl, sym, ap, _∙_}
+use mathlib.Core.Bool.{Bool, true, false, _&&_, and-false}
 use mathlib.Core.List.{List}
-use Prim.Native.Nat.{ℕ, _+_, _<_}
+use Prim.Native.Nat.{ℕ, _+_, _<_, _≤_}
 use borrow.Author.Tests.{eqb-true}
 use lib.ListN.{getD, set}
 use Rattle.base.specs.Tests.{if_then_else_, _=?_, by-test}
-use Rattle.base.specs.Marks.{Marked, marked-more}
-use Rattle.machine.specs.Terms.{noTransition}
+use Rattle.base.specs.Loops.{pastLast, pastLast-most, pastLast-none, ascending-within}
+use Rattle.base.specs.Marks.{LastFound, found-more}
+use Rattle.machine.specs.Terms.{noTransition, sleeping, occurring, toStop}
 use Rattle.machine.specs.Tables.{anchorAt}
-use Rattle.machine.specs.Events.{Run, anchorState, transition, anchorTo, anchorChanged, anchorMoved}
+use Rattle.machine.specs.Events.{Run, withState, anchorState, awake, beginsAt, endsAt, transition, anchorTo, anchorChanged, anchorMoved, anchorsMoved, mediaMoved}
+use Rattle.machine.specs.Tick.{withClock, anchorsPassed, passed}
+use Rattle.machine.specs.OfColumns.{anchorsOf}
 use Rattle.machine.specs.declared.Anchors.{Anchors}
-use Rattle.transitions.specs.Due.{dueAt, dueNext}
+use Rattle.machine.specs.declared.Document.{Document}
+use Rattle.transitions.specs.declared.media.Due.{Due}
+use Rattle.transitions.specs.Due.{dueAt, dueNext, dueOf}
 
 -- an anchor that does not move has no transition
 changed-if : (b aborting : Bool) (a new : ℕ) (r : Run)
@@ -19,6 +24,11 @@ changed-if : (b aborting : Bool) (a new : ℕ) (r : Run)
 unfolding if_then_else_ anchorTo anchorChanged
 changed-if true aborting a new r = refl
 changed-if false aborting a new r = refl
+
+-- a test that fails fails with another beside it
+stays-with : (a b c : Bool) → a && c ≡ false → a && (b && c) ≡ false
+stays-with true b c e = rw e (and-false b)
+stays-with false b c e = refl
 
 -- one anchor, by its transition
 pub anchor-moved : (anchors : Anchors) (moves : ℕ → ℕ → ℕ → Bool) (aborting : Bool) (n new a : ℕ) (r : Run) {z : Run} (change : ℕ)
@@ -28,9 +38,41 @@ unfolding anchorMoved
 anchor-moved anchors moves aborting n new a r change e p = p ∙ rw e (sym (changed-if _ aborting a new r))
 
 -- one anchor more is looked at
-pub marked-due : (anchors : Anchors) (clocks : List ℕ) (a m : ℕ) (marks : List Bool) (is-due : Bool) → m < 256 → m ≡ anchorAt anchors a .media
-    → is-due ≡ (anchorAt anchors a .end =? getD clocks m 0 + 1 || anchorAt anchors a .begin =? getD clocks m 0 + 1)
-    → Marked (dueNext anchors clocks) a marks → Marked (dueNext anchors clocks) (a + 1) (set marks m (getD marks m false || is-due))
+pub found-due : (media times clocks : List ℕ) (a m : ℕ) (table : List ℕ) (is-due : Bool) → m < 64 → m ≡ getD media a 0 → is-due ≡ (getD times a 0 =? getD clocks m 0 + 1)
+    → LastFound (dueNext media times clocks) a table → LastFound (dueNext media times clocks) (a + 1) (if is-due then set table m (a + 1) else table)
 unfolding dueAt dueNext
-marked-due anchors clocks a m marks is-due h e p k =
-    marked-more _ a m marks is-due _ h (λ n. rw (p, ← e) (by-test (m =? n) (λ q. rw (q, eqb-true m n q)) (λ q. rw q))) refl k
+found-due media times clocks a m table is-due h e p =
+    found-more _ a m table is-due h (λ n. rw (p, ← e) (by-test (m =? n) (λ q. rw (q, eqb-true m n q)) (λ q. rw q)))
+
+-- from the last that is due on none moves
+module _ (count : ℕ) (media begins ends : List ℕ) (n clock new : ℕ) (r : Run) where
+  moved-within : (moves : ℕ → ℕ → ℕ → Bool) (due : ℕ → Bool) → ((a state : ℕ) → due a ≡ false → getD media a 0 =? n && moves (getD begins a 0) (getD ends a 0) state ≡ false)
+      → anchorsMoved (anchorsOf (pastLast due count) media begins ends) moves false n new r ≡ anchorsMoved (anchorsOf count media begins ends) moves false n new r
+  unfolding anchorsMoved anchorMoved if_then_else_
+  moved-within moves due none =
+      ascending-within (anchorMoved (anchorsOf count media begins ends) moves false n new) (pastLast due count) count r (pastLast-most due count)
+      (λ a y l h. rw (none a (anchorState (y .state) a) (pastLast-none due count a l h)))
+
+  ending-within : anchorsMoved (anchorsOf (pastLast (dueAt media ends n clock) count) media begins ends) (endsAt clock) false n new r ≡ anchorsMoved (anchorsOf count media begins ends) (endsAt clock) false n new r
+  unfolding dueAt endsAt
+  ending-within = moved-within (endsAt clock) _ (λ a state e. stays-with (getD media a 0 =? n) (awake state) (getD ends a 0 =? clock) e)
+
+  beginning-within : anchorsMoved (anchorsOf (pastLast (dueAt media begins n clock) count) media begins ends) (beginsAt clock) false n new r ≡ anchorsMoved (anchorsOf count media begins ends) (beginsAt clock) false n new r
+  unfolding dueAt beginsAt
+  beginning-within = moved-within (beginsAt clock) _ (λ a state e. e)
+
+-- a media passes a clock, by what is due there: x where the anchors that end have stopped, y where those that begin have started
+module _ (d : Document) (count : ℕ) (media begins ends : List ℕ) (n clock : ℕ) (r : Run) (of : d .anchors ≡ anchorsOf count media begins ends) {due : Due} (is : due ≡ dueOf d n clock) {x y : Run}
+    (p : x ≡ anchorsMoved (anchorsOf (due .ending) media begins ends) (endsAt clock) false n sleeping (withState (withClock n clock (r .state)) (r .log) r))
+    (q : y ≡ anchorsMoved (anchorsOf (due .beginning) media begins ends) (beginsAt clock) false n occurring x) where
+  anchors-pass : y ≡ anchorsPassed d n clock r
+  unfolding anchorsPassed dueOf
+  anchors-pass = q ∙ rw (p, is, of) (beginning-within count media begins ends n clock occurring _ ∙ rw (ending-within count media begins ends n clock sleeping _))
+
+  pub passes-end : {z : Run} → due .stops ≡ true → z ≡ mediaMoved (anchorsOf count media begins ends) toStop n y → z ≡ passed d n clock r
+  unfolding passed dueOf if_then_else_
+  passes-end e z = z ∙ rw (← of, anchors-pass, sym (ap (λ (t : Due). t .stops) is) ∙ e)
+
+  pub passes-on : due .stops ≡ false → y ≡ passed d n clock r
+  unfolding passed dueOf if_then_else_
+  passes-on e = rw (sym (ap (λ (t : Due). t .stops) is) ∙ e) anchors-pass

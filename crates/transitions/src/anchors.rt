@@ -7,11 +7,10 @@ use log::Written;
 use log::emit;
 use machine::terms;
 ghost use mathlib.Core.Path.{_≡_};
-ghost use mathlib.Core.Bool.{_||_};
 ghost use Prim.Native.Nat.{ℕ, _+_, _<_, _≤_};
 ghost use lib.ListN.{getD};
 ghost use Rattle.base.specs.Tests.{_=?_};
-ghost use Rattle.base.specs.Marks.{Marked};
+ghost use Rattle.base.specs.Marks.{LastFound};
 ghost use Rattle.machine.specs.Events.{anchorsMoved};
 ghost use Rattle.machine.specs.declared.NodeEvents.{NodeEvents};
 ghost use Rattle.machine.specs.OfColumns.{anchorEventsOf, anchorsOf};
@@ -68,35 +67,33 @@ pub fn move_anchors<'a>(
     t
 }
 
-// Whether an anchor ends or begins at the clock after this one.
-fn is_due(begin: u16, end: u16, clock: u16) -> bool
-    ensures { λ r. ⌜ r ≡ (end =? clock + 1 || begin =? clock + 1) ⌝ }
+// Whether the time comes with the clock after this one.
+fn is_next(time: u16, clock: u16) -> bool
+    ensures { λ r. ⌜ r ≡ time =? clock + 1 ⌝ }
 {
-    let next = clock as u32 + 1;
-    (end as u32 == next) | (begin as u32 == next)
+    time as u32 == clock as u32 + 1
 }
 
-// The media that have an anchor which ends or begins at their next clock: of so many anchors, with these media, begins and ends.
-pub fn due_media<'a>(
+// For each media one past the last of its anchors whose time comes with its next clock, and 0 where no time does: of so many
+// anchors, with these media and, as times, begins or ends.
+pub fn past_last_due<'a>(
     anchors: usize,
     media: &'a [u8; 128],
-    begins: &'a [u16; 128],
-    ends: &'a [u16; 128],
+    times: &'a [u16; 128],
     clocks: &[u16; 64],
-) -> [bool; 256]
+) -> [usize; 64]
     requires { ⌜ (anchors ≤ 128) × ((a : ℕ) → a < anchors → getD (now media) a 0 < 64) ⌝ }
-    ensures { λ r. ⌜ Marked
-        (dueNext (anchorsOf anchors (now (media .entry)) (now (begins .entry)) (now (ends .entry))) (now (clocks .entry)))
-        anchors r ⌝ }
+    ensures { λ r. ⌜ LastFound (dueNext (now (media .entry)) (now (times .entry)) (now (clocks .entry))) anchors r ⌝ }
 {
-    let mut marks: [bool; 256] = [false; 256];
+    let mut past: [usize; 64] = [0; 64];
     let mut next = 0;
     while next < anchors {
         let a = next;
         next += 1;
         let n = index_of(media[a]);
-        let is_due = is_due(begins[a], ends[a], clocks[n]);
-        marks[n] = marks[n] | is_due;
+        if is_next(times[a], clocks[n]) {
+            past[n] = next;
+        }
     }
-    marks
+    past
 }

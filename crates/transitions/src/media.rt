@@ -10,13 +10,13 @@ use records::tables::next_state;
 ghost use mathlib.Core.Path.{_≡_};
 ghost use Prim.Native.Nat.{_<_, _≤_};
 ghost use Rattle.machine.specs.Terms.{toStart, toResume};
-ghost use Rattle.machine.specs.Tables.{durationOf};
 ghost use Rattle.machine.specs.Events.{mediaMoved};
 ghost use Rattle.machine.specs.Tick.{passed};
 ghost use Rattle.machine.specs.declared.Document.{Document};
 ghost use Rattle.machine.specs.OfColumns.{nodeEventsOf, anchorEventsOf, anchorsOf};
 ghost use Rattle.log.specs.LogSlice.{logOf};
 ghost use Rattle.transitions.specs.Lent.{Rest, runWith};
+ghost use Rattle.transitions.specs.Due.{dueOf};
 
 // An action on media n, with its anchors.
 pub fn move_media<'a>(
@@ -85,8 +85,16 @@ pub fn move_media<'a>(
     node_to(states, clocks, counts, log, v, aborting, n, new)
 }
 
-// Media n, with its duration, comes to the clock: its awake anchors that end there stop, those that begin there start, and at
-// its duration it stops itself.
+// What a media has to do at a clock: its anchors that end there are among the first so many, those that begin there likewise,
+// and it stops there itself.
+pub struct Due {
+    pub ending: usize,
+    pub beginning: usize,
+    pub stops: bool,
+}
+
+// Media n comes to the clock: its awake anchors that end there stop, those that begin there start, and at its duration it stops
+// itself.
 pub fn pass_media<'a>(
     anchors: usize,
     media: &'a [u8; 128],
@@ -100,13 +108,13 @@ pub fn pass_media<'a>(
     log: &mut [u8],
     written: Written,
     n: usize,
-    duration: u16,
     clock: u16,
+    due: Due,
 ) -> Written
-    requires { ⌜ (anchors ≤ 128) × (n < 64) ⌝ }
+    requires { ⌜ (anchors ≤ 128) × (n < 64) × (due .ending ≤ anchors) × (due .beginning ≤ anchors) ⌝ }
     ensures { λ w. ⌜ ((d : Document) (rest : Rest)
         → d .anchors ≡ anchorsOf anchors (now (media .entry)) (now (begins .entry)) (now (ends .entry))
-        → durationOf (d .nodes) n ≡ duration
+        → due ≡ dueOf d n clock
         → runWith (nodeEventsOf (now (states .exit)) (now (clocks .exit)) (now (counts .exit)))
         (anchorEventsOf (now («anchor_states» .exit)) (now («anchor_counts» .exit))) rest
         (logOf w (now (log .exit)))
@@ -117,7 +125,7 @@ pub fn pass_media<'a>(
 {
     clocks[n] = clock;
     let ended = move_anchors(
-        anchors,
+        due.ending,
         media,
         begins,
         ends,
@@ -131,7 +139,7 @@ pub fn pass_media<'a>(
         terms::SLEEPING,
     );
     let begun = move_anchors(
-        anchors,
+        due.beginning,
         media,
         begins,
         ends,
@@ -144,22 +152,22 @@ pub fn pass_media<'a>(
         n,
         terms::OCCURRING,
     );
-    if duration != clock {
-        return begun;
+    if due.stops {
+        return move_media(
+            anchors,
+            media,
+            begins,
+            ends,
+            states,
+            clocks,
+            counts,
+            anchor_states,
+            anchor_counts,
+            log,
+            begun,
+            terms::TO_STOP,
+            n,
+        );
     }
-    move_media(
-        anchors,
-        media,
-        begins,
-        ends,
-        states,
-        clocks,
-        counts,
-        anchor_states,
-        anchor_counts,
-        log,
-        begun,
-        terms::TO_STOP,
-        n,
-    )
+    begun
 }

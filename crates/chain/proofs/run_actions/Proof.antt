@@ -2,10 +2,7 @@
 use mathlib.Core.Path.{_≡_, refl, _∙_}
 use Prim.Native.Nat.{_≤_, _-_, _+_, _*_}
 use native.Mathlib.Omega.{arith}
-use lib.ListN.{length, getD}
-use lib.IntN.{pos}
-use mir.Facts.{toZ-ofZ}
-use mir.Syntax.{w32}
+use lib.ListN.{length}
 use borrow.Author.Needs.{needs}
 use Rattle.base.specs.Tests.{if_then_else_}
 use Rattle.base.specs.Loops.{ascending, ascending-none, ascending-more, ascending-done}
@@ -15,10 +12,10 @@ use Rattle.chain.proofs.run_actions.Statement.{statement}
 use Rattle.chain.proofs.run_actions.Tie as tie
 
 abbrev Inv-loop : tie.InvT-loop
-Inv-loop d log₀ l t₀ actions end next₀ log t next = (next ≤ end) × (length log ≡ length log₀) × (run t log ≡ ascending (actionRun d l) next (run t₀ log₀))
+Inv-loop log₀ l d t₀ end next₀ log t next = (next ≤ end) × (length log ≡ length log₀) × (run t log ≡ ascending (actionRun d l) next (run t₀ log₀))
 
 abbrev μ-loop : tie.MeasureT-loop
-μ-loop d log₀ l t₀ actions end next₀ log t next = end - next
+μ-loop log₀ l d t₀ end next₀ log t next = end - next
 
 pub run-actions-spec : {M : Type 1} → statement M
 unfolding actionsRun actionRun goesOn if_then_else_
@@ -26,46 +23,27 @@ run-actions-spec =
     tie.close
     (tie.spec
     Inv-loop μ-loop
-    (λ c. omega (arith, c .before .before .before .pre .0 .links))  -- element-copy-out-index-of
+    (λ c. omega (arith, c .before .before .pre .0 .links))  -- element-copy-out-index-of
     (λ c κs. search needs)  -- index-of-requires
     (λ c. (omega arith, refl, ascending-none _ _))  -- loop-holds
     (λ c. search needs)  -- add-next
     (λ c κs. search needs)  -- goes-on-requires
-    (λ c.
-    let the-entry = c .before .before .before .before .before .before .before .before .before in
-    omega (arith, the-entry .pre .0 .links))  -- mul-place
-    (λ c.
-    let the-entry = c .before .before .before .before .before .before .before .before .before in
-    omega (arith, the-entry .pre .0 .links))  -- add-place
-    (λ c.
-    let the-entry = c .before .before .before .before .before .before .before .before .before in
-    omega (arith, the-entry .pre .0 .links, the-entry .pre .0 .actions _ (the-entry .pre .1)))  -- element-copy-out-t21
-    (λ c.
-    let the-entry = c .before .before .before .before .before .before .before .before .before .before in
-    omega (arith, the-entry .pre .0 .links, the-entry .pre .0 .actions _ (the-entry .pre .1)))  -- element-copy-out-t24
-    (λ c.
-    let the-entry = c .before .before .before .before .before .before .before .before .before .before .before in
-    omega (arith, the-entry .pre .0 .links, the-entry .pre .0 .actions _ (the-entry .pre .1)))  -- mul-t18
-    (λ c.
-    let the-entry = c .before .before .before .before .before .before .before .before .before .before .before in
-    omega (arith, the-entry .pre .0 .links, the-entry .pre .0 .actions _ (the-entry .pre .1)))  -- element-copy-out-t27
     (λ c κs.
-    let the-entry = c .before .before .before .before .before .before .before .before .before .before .before .before .before in
-    let the-loop = c .before .before .before .before .before .before .before .loop in
-    let the-t27 = c .before .t27 in
-    let the-index-of = c .before .before .before .before .before .before .before .before .index-of in
-    let the-loop-test = c .before .before .before .before .before .before .loop-test in
-    (the-entry .pre .0, rw (toZ-ofZ {w = w32} {z = getD (the-entry .args .d .actions .values) (8 * the-entry .args .l + the-loop .next) (pos 0)} (record { sfits = the-t27 .given })) (the-entry .pre .0 .link-action _ _ (the-entry .pre .1) (rw (the-index-of .ensures .0) at (the-loop-test .taken)))))  -- act-requires
+    let the-entry = c .before .before .before .before .before .before .before .before .before .before .before .before in
+    omega (arith, the-entry .pre .0 .links, the-entry .pre .0 .actions _ (the-entry .pre .1)))  -- action-at-requires
+    (λ c κs.
+    let the-entry = c .before .before .before .before .before .before .before .before .before .before .before .before .before .before in
+    let the-index-of = c .before .before .before .before .before .before .before .before .before .before .index-of in
+    let the-loop-test = c .before .before .before .before .before .before .before .before .loop-test in
+    (the-entry .pre .0, rw (c .before .action-at .ensures) (the-entry .pre .0 .link-action _ _ (the-entry .pre .1) (rw (the-index-of .ensures .0) at (the-loop-test .taken)))))  -- act-requires
     (λ c. search needs)  -- loop-less
     (λ c.
-    let the-loop-test = c .before .before .before .before .before .before .before .before .before .loop-test in
+    let the-loop-test = c .before .before .before .before .before .before .before .before .before .before .before .loop-test in
     let the-act = c .before .before .act in
-    let the-loop = c .before .before .before .before .before .before .before .before .before .before .loop in
-    let the-goes-on = c .before .before .before .before .before .before .before .before .goes-on in
-    let the-if1 = c .before .before .before .before .before .before .before .if1 in
-    let the-entry = c .before .before .before .before .before .before .before .before .before .before .before .before .before .before .before .before in
-    let the-t27 = c .before .before .before .before .t27 in
-    (omega (arith, the-loop-test), the-act .kept .1 .1 .0 ∙ the-loop .inv .1, ascending-more _ _ _ (the-loop .inv .2) (rw (← the-goes-on .ensures, the-if1 .taken) (rw (toZ-ofZ {w = w32} {z = getD (the-entry .args .d .actions .values) (8 * the-entry .args .l + the-loop .next) (pos 0)} (record { sfits = the-t27 .given })) at (the-act .ensures)))))  -- loop-again
+    let the-loop = c .before .before .before .before .before .before .before .before .before .before .before .before .loop in
+    let the-goes-on = c .before .before .before .before .before .before .before .before .before .before .goes-on in
+    let the-if1 = c .before .before .before .before .before .before .before .before .before .if1 in
+    (omega (arith, the-loop-test), the-act .kept .1 .1 .0 ∙ the-loop .inv .1, ascending-more _ _ _ (the-loop .inv .2) (rw (← the-goes-on .ensures, the-if1 .taken) (rw (c .before .before .before .before .action-at .ensures) at (the-act .ensures)))))  -- loop-again
     (λ c. search needs)  -- loop-less-2
     (λ c.
     let the-loop = c .before .before .before .loop in

@@ -25,5 +25,5 @@ tables-obey-spec =
     let the-anchors-obey = c .before .before .before .before .before .before .before .before .before .before .before .before .before .before .before .before .before .before .before .before .before .before .before .before .before .before .before .before .before .before .anchors-obey in
     let the-nodes-obey = c .before .before .before .before .before .before .before .before .before .before .before .before .before .before .before .before .before .before .before .before .before .before .before .before .before .before .before .before .before .before .before .before .before .before .before .before .before .nodes-obey in
     let d = the-entry .args .t1 in
-    rw (c .links-obey .ensures d refl refl refl refl refl refl refl refl refl, the-ports-obey .ensures d refl refl refl refl, the-binds-obey .ensures d refl refl refl refl refl, the-rules-obey .ensures d refl refl, the-properties-obey .ensures d, the-anchors-obey .ensures d refl refl refl refl, the-nodes-obey .ensures d refl))  -- returns
+    rw (c .links-obey .ensures d refl refl refl refl refl refl refl, the-ports-obey .ensures d refl refl refl refl, the-binds-obey .ensures d refl refl refl refl refl, the-rules-obey .ensures d refl refl, the-properties-obey .ensures d, the-anchors-obey .ensures d refl refl refl refl, the-nodes-obey .ensures d refl))  -- returns
     )

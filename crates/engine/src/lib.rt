@@ -95,9 +95,8 @@ fn run_call(s: Session, c: Call, log: &mut [u8]) -> Called
     ensures { λ r. ⌜ callResult r (now (log .exit))
         ≡ ended s (length (now (log .entry))) (runOf s c (length (now (log .entry)))) ⌝ }
 {
-    let d = s.document;
-    let w = begin(d, events::work_of(s.state), &mut *log, c);
-    let v = chain::run_chain(d, w, &mut *log);
+    let w = begin(s.document, events::work_of(s.state), &mut *log, c);
+    let v = chain::run_chain(s.document, w, &mut *log);
     end(s, v, log)
 }
 

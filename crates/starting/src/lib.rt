@@ -23,6 +23,9 @@ pub fn media_of_start(d: Document, states: [u8; 64], values: [i32; 32], n: usize
     ensures { λ r. ⌜ MediaOfStart d states values n r ⌝ }
 {
     let nodes = d.nodes;
+    let ports = d.ports;
+    let binds = d.binds;
+    let rules = d.rules;
     let start = start_of(true, nodes.types[n], states[n]);
     let mut media = [0u8; 64];
     let mut left = states;
@@ -33,12 +36,12 @@ pub fn media_of_start(d: Document, states: [u8; 64], values: [i32; 32], n: usize
             Queue { media, count: 1 }
         }
         Start::Context => {
-            let chosen = found_children(d.binds, d.rules, values);
+            let chosen = found_children(binds, rules, values);
             let count = start_context(
-                d.ports.count,
-                &d.ports.contexts,
-                &d.ports.children,
-                &d.nodes.types,
+                ports.count,
+                &ports.contexts,
+                &ports.children,
+                &nodes.types,
                 &chosen,
                 &mut left,
                 &mut media,
@@ -48,12 +51,12 @@ pub fn media_of_start(d: Document, states: [u8; 64], values: [i32; 32], n: usize
             Queue { media, count }
         }
         Start::Switch => {
-            let chosen = found_children(d.binds, d.rules, values);
+            let chosen = found_children(binds, rules, values);
             let count = start_switch(
-                d.ports.count,
-                &d.ports.contexts,
-                &d.ports.children,
-                &d.nodes.types,
+                ports.count,
+                &ports.contexts,
+                &ports.children,
+                &nodes.types,
                 &chosen,
                 &mut left,
                 &mut media,

@@ -35,19 +35,16 @@ fn advance_all(d: Document, w: Work, log: &mut [u8]) -> Work
         ≡ ascending (tickedOne d) (d .nodes .count) (run w (now (log .entry))) ⌝ }
 {
     let nodes = d.nodes;
+    // Columns that are lent stand in a table of their own; lent from the document, they would make a copy of all of it.
+    let anchors = d.anchors;
     let mut states = w.node_states;
     let mut clocks = w.node_clocks;
     let mut counts = w.node_counts;
     let mut anchor_states = w.anchor_states;
     let mut anchor_counts = w.anchor_counts;
     let mut written = w.written;
-    let ending = past_last_due(d.anchors.count, &d.anchors.media, &d.anchors.ends, &clocks);
-    let beginning = past_last_due(
-        d.anchors.count,
-        &d.anchors.media,
-        &d.anchors.begins,
-        &clocks,
-    );
+    let ending = past_last_due(d.anchors.count, &anchors.media, &anchors.ends, &clocks);
+    let beginning = past_last_due(d.anchors.count, &anchors.media, &anchors.begins, &clocks);
     let end = nodes.count;
     let mut next = 0;
     while next < end {
@@ -63,9 +60,9 @@ fn advance_all(d: Document, w: Work, log: &mut [u8]) -> Work
             };
             written = pass_media(
                 d.anchors.count,
-                &d.anchors.media,
-                &d.anchors.begins,
-                &d.anchors.ends,
+                &anchors.media,
+                &anchors.begins,
+                &anchors.ends,
                 &mut states,
                 &mut clocks,
                 &mut counts,

@@ -16,9 +16,8 @@ run-call-spec =
     (λ c. search needs)  -- same-length
     (λ c.
     let the-work-of = c .before .before .before .before .before .before .before .before .before .before .before .before .work-of in
-    let the-entry = c .before .before .before .before .before .before .before .before .before .before .before .before .before .before .before in
+    let the-entry = c .before .before .before .before .before .before .before .before .before .before .before .before .before .before in
     let the-begin = c .before .before .before .before .before .before .before .before .before .before .begin in
     let the-run-chain = c .before .before .before .before .before .before .run-chain in
-    let the-end = c .before .before .end in
-    rw (← the-work-of .ensures (the-entry .args .log .now), ← the-begin .ensures, ← the-begin .kept .1 .1 .0, ← the-run-chain .ensures, ← the-run-chain .kept .1 .1 .0) (the-end .ensures))  -- returns
+    rw (← the-work-of .ensures (the-entry .args .log .now), ← the-begin .ensures, ← the-begin .kept .1 .1 .0, ← the-run-chain .ensures, ← the-run-chain .kept .1 .1 .0) (c .before .before .end .ensures))  -- returns
     )

@@ -12,14 +12,14 @@ use Rattle.ticking.proofs.advance_all.Statement.{statement}
 use Rattle.ticking.proofs.advance_all.Tie as tie
 
 abbrev Inv-loop : tie.InvT-loop
-Inv-loop w log₀ d nodes states₀ clocks₀ counts₀ anchor-states₀ anchor-counts₀ written₀ ending beginning end next₀ log states clocks counts anchor-states anchor-counts written next = (next ≤ end) × (length log ≡ length log₀) × (runWith (nodeEventsOf states clocks counts) (anchorEventsOf anchor-states anchor-counts) (restOf w) (logOf written log) ≡ ascending (tickedOne d) next (run w log₀))
+Inv-loop d w log₀ nodes anchors states₀ clocks₀ counts₀ anchor-states₀ anchor-counts₀ written₀ ending beginning end next₀ log states clocks counts anchor-states anchor-counts written next = (next ≤ end) × (length log ≡ length log₀) × (runWith (nodeEventsOf states clocks counts) (anchorEventsOf anchor-states anchor-counts) (restOf w) (logOf written log) ≡ ascending (tickedOne d) next (run w log₀))
 
 abbrev μ-loop : tie.MeasureT-loop
-μ-loop w log₀ d nodes states₀ clocks₀ counts₀ anchor-states₀ anchor-counts₀ written₀ ending beginning end next₀ log states clocks counts anchor-states anchor-counts written next = end - next
+μ-loop d w log₀ nodes anchors states₀ clocks₀ counts₀ anchor-states₀ anchor-counts₀ written₀ ending beginning end next₀ log states clocks counts anchor-states anchor-counts written next = end - next
 
 -- a turn of the loop: the function's entry, and the run before the turn
 abbrev entry : tie.At-loop Inv-loop μ-loop → tie.Start Inv-loop μ-loop
-entry a = a .before .before .before .before .before .before .before .before .before .before .before .before .before .before .before .before .before .before .before
+entry a = a .before .before .before .before .before .before .before .before .before .before .before .before .before .before .before .before .before .before .before .before
 
 abbrev before : tie.At-loop Inv-loop μ-loop → Run
 before a =
@@ -31,10 +31,10 @@ advance-all-spec =
     (tie.spec
     Inv-loop μ-loop
     (λ c κs.
-    let the-entry = c .before .before .before .before .before .before .before .before .before .before .before .before in
+    let the-entry = c .before .before .before .before .before .before .before .before .before .before .before .before .before in
     (the-entry .pre .anchors, λ a h. omega (arith, the-entry .pre .anchor-media a h, the-entry .pre .nodes .few)))  -- past-last-due-requires
     (λ c κs.
-    let the-entry = c .before .before .before .before .before .before .before .before .before .before .before .before .before .before .before .before .before in
+    let the-entry = c .before .before .before .before .before .before .before .before .before .before .before .before .before .before .before .before .before .before in
     (the-entry .pre .anchors, λ a h. omega (arith, the-entry .pre .anchor-media a h, the-entry .pre .nodes .few)))  -- past-last-due-requires-2
     (λ c. (omega arith, refl, ascending-none _ _))  -- loop-holds
     (λ c. search needs)  -- add-next
@@ -60,7 +60,7 @@ advance-all-spec =
     let the-loop-test = c .before .before .before .before .before .before .before .before .before .before .before .before .before .before .before .before .before .loop-test in
     let the-pass-media = c .before .before .pass-media in
     let due = due-next _ _ (before a) _ (a .loop .inv .2) (omega (arith, entry a .pre .nodes .few, the-loop-test .taken)) _ _ _ (a .before .before .before .before .before .before .past-last-due .ensures) (a .before .past-last-due2 .ensures) refl in
-    (omega (arith, the-loop-test .taken), the-pass-media .kept .1 .1 .1 .1 .1 .1 .1 .1 .1 .0 ∙ a .loop .inv .1, ascending-more _ _ _ (a .loop .inv .2) (ticked-passes _ _ (before a) (sym (c .before .before .before .before .before .before .before .before .before .before .before .before .before .before .before .advances .ensures) ∙ c .before .before .before .before .before .before .before .before .before .before .before .before .before .before .if1 .taken) (the-pass-media .ensures (entry a .args .t1) (restOf (entry a .args .w)) refl due))))  -- loop-again
+    (omega (arith, the-loop-test .taken), the-pass-media .kept .1 .1 .1 .1 .1 .1 .1 .1 .1 .0 ∙ a .loop .inv .1, ascending-more _ _ _ (a .loop .inv .2) (ticked-passes _ _ (before a) (sym (c .before .before .before .before .before .before .before .before .before .before .before .before .before .before .before .advances .ensures) ∙ c .before .before .before .before .before .before .before .before .before .before .before .before .before .before .if1 .taken) (the-pass-media .ensures (entry a .args .d) (restOf (entry a .args .w)) refl due))))  -- loop-again
     (λ c. search needs)  -- loop-less-2
     (λ c.
     let a = c .before .before .before .before in

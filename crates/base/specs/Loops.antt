@@ -79,10 +79,6 @@ module _ {A : Type 0} (step : ℕ → A → A) where
 
   -- ---- laws of `descending`
 
-  pub descending-none : (x : A) → x ≡ descending step 0 x
-  unfolding descending
-  descending-none x = refl
-
   pub descending-more : (k : ℕ) {x y z : A} → 0 < k → descending step k x ≡ z → y ≡ step (k - 1) x → descending step (k - 1) y ≡ z
   unfolding descending
   descending-more (suc k) h p q = rw sub-one (ap (descending step k) (simp sub-one at q) ∙ p)
@@ -246,10 +242,6 @@ module _ (test : ℕ → Bool) where
       let l : k ≤ n = omega arith in
       ⊎-elim (λ q. rw (← q, e) (sym (and-false (every test k)))) (λ (l : k < n). rw (← every-fails k n l e)) (eq-or-lt-of-le l)
 
-  -- where every id below n passes, n is at most one that fails
-  pub every-within : (k n : ℕ) → test k ≡ false → every test n ≡ true → n ≤ k
-  every-within k n e p = by-test (n ≤? k) (leb-true n k) (λ q. absurd (false≢true (every-fails k n (leb-false n k q) e ∙ p)))
-
 pub some-one : (test : ℕ → Bool) (n : ℕ) → some test n ≡ true → (k : ℕ) × (k < n) × (test k ≡ true)
 unfolding some
 some-one test zero e = absurd (false≢true e)
@@ -264,9 +256,6 @@ one-some test zero k h e = absurd (omega arith)
 one-some test (suc n) k h e =
     let l : k ≤ n = omega arith in
     ⊎-elim (λ q. rw (← q, e) (or-true (some test k))) (λ (l : k < n). rw (one-some test n k l e)) (eq-or-lt-of-le l)
-
-pub none-some : (test : ℕ → Bool) (n : ℕ) → some test n ≡ false → (k : ℕ) → k < n → test k ≡ false
-none-some test n e k h = by-test (test k) (λ p. absurd (false≢true (sym e ∙ one-some test n k h p))) (λ p. p)
 
 pub same-some : (test other : ℕ → Bool) (n : ℕ) → ((k : ℕ) → k < n → test k ≡ other k) → some test n ≡ some other n
 unfolding some

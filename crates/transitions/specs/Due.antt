@@ -17,6 +17,7 @@ dueAt media times n clock a = getD media a 0 =? n && getD times a 0 =? clock
 unfoldable pub dueNext : List ℕ → List ℕ → List ℕ → ℕ → ℕ → Bool
 dueNext media times clocks n = dueAt media times n (getD clocks n 0 + 1)
 
+-- of a document: how far anchors of n that end at the clock reach, how far those that begin at it, and whether n stops there
 unfoldable pub dueOf : Document → ℕ → ℕ → Due
 dueOf d n clock = record {
   ending = pastLast (dueAt (d .anchors .media) (d .anchors .ends) n clock) (d .anchors .count);

@@ -71,7 +71,7 @@ module _ (test : ℕ → ℕ → Bool) where
   pub numbered-most : (i : ℕ) (numbers : List ℕ) → Numbered test i numbers → (n : ℕ) → n < 256 → getD numbers n 0 ≤ i
   numbered-most i numbers k n h = rw (k .numbered n h) (passing-most (test n) i)
 
--- for each n below 64
+-- one past the last entry so far that passes the test of n, for each n below 64
 pub record LastFound (test : ℕ → ℕ → Bool) (entries : ℕ) (table : List ℕ) : Type 0 where
   pub places : length table ≡ 64
   pub found : (n : ℕ) → n < 64 → getD table n 0 ≡ pastLast (test n) entries

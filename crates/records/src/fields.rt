@@ -1,4 +1,4 @@
-// Entries of a table or body, 0 past its end, and fields of several bytes, the low byte first.
+// Entries of a table or body, 0 past its end; fields of several bytes, the low byte first; and an action, by its body or by columns.
 use machine::ActionRecord;
 ghost use mathlib.Core.Path.{_≡_};
 ghost use Prim.Native.Nat.{_<_, _≤_, _+_, _*_};

@@ -343,7 +343,7 @@ fn links_obey<'a>(
     obey
 }
 
-// A document is large and stays where it is: each check is lent the columns that it looks at.
+// Each check is lent the columns that it looks at.
 pub fn tables_obey(d: Document) -> bool
     ensures { λ b. ⌜ b ≡ tablesObey d ⌝ }
 {

@@ -1,15 +1,15 @@
--- Laws of the tick: one media, and the clocks of the others.
-use mathlib.Core.Path.{_≡_, refl, sym, ap, _∙_}
+-- Laws of the tick: the clocks of other media, what is due, and one media.
+use mathlib.Core.Path.{_≡_, refl, ap, _∙_}
 use mathlib.Core.Bool.{Bool, true, false, _&&_}
 use mathlib.Core.List.{List}
 use Prim.Native.Nat.{ℕ, _+_, _<_, _≤_}
 use native.Mathlib.Omega.{arith}
-use borrow.Author.Tests.{ltb-true}
-use lib.ListN.{getD}
+use borrow.Author.Tests.{eqb-true, ltb-true}
+use lib.ListN.{getD, set}
 use lib.Seq.{getD-set-other}
-use Rattle.base.specs.Tests.{if_then_else_, _=?_, _<?_}
+use Rattle.base.specs.Tests.{if_then_else_, _=?_, _<?_, by-test}
 use Rattle.base.specs.Loops.{ascending, pastLast, ascending-turns}
-use Rattle.base.specs.Marks.{LastFound}
+use Rattle.base.specs.Marks.{LastFound, found-more}
 use Rattle.machine.specs.Terms.{media, occurring}
 use Rattle.machine.specs.Tables.{typeOf, durationOf}
 use Rattle.machine.specs.Events.{Run, nodeState, nodeClock, nodeTo, nodeChanged, anchorTo, anchorChanged, anchorMoved, anchorsMoved, mediaTo, mediaMoved}
@@ -17,9 +17,9 @@ use Rattle.machine.specs.Tick.{anchorsPassed, passed, tickedOne}
 use Rattle.machine.specs.declared.Anchors.{Anchors}
 use Rattle.machine.specs.declared.Document.{Document}
 use Rattle.machine.proofs.Keep.{chosen}
-use Rattle.transitions.specs.Due.{dueAt, dueNext, dueOf}
+use Rattle.transitions.specs.Due.{dueAt, dueOf}
 use Rattle.transitions.specs.declared.media.Due.{Due}
-use Rattle.ticking.specs.Advancing.{advancing}
+use Rattle.ticking.specs.Advancing.{advancing, dueNext}
 
 pub low-clock : (type state clock : ℕ) → advancing type state clock ≡ true → clock < 65_535
 unfolding advancing
@@ -72,6 +72,13 @@ unfolding Left
 later-clocks d i r =
     ascending-turns (λ k (y : Run). (j : ℕ) → k ≤ j → nodeClock (y .state) j ≡ nodeClock (r .state) j) i r (λ j h. refl)
     (λ k y h p j l. ticked-leaves d k j (λ e. omega arith) y ∙ p j (omega arith))
+
+-- one anchor more is looked at
+pub found-due : (media times clocks : List ℕ) (a m : ℕ) (table : List ℕ) (is-due : Bool) → m < 64 → m ≡ getD media a 0 → is-due ≡ (getD times a 0 =? getD clocks m 0 + 1)
+    → LastFound (dueNext media times clocks) a table → LastFound (dueNext media times clocks) (a + 1) (if is-due then set table m (a + 1) else table)
+unfolding dueAt dueNext
+found-due media times clocks a m table is-due h e p =
+    found-more _ a m table is-due h (λ n. rw (p, ← e) (by-test (m =? n) (λ q. rw (q, eqb-true m n q)) (λ q. rw q)))
 
 -- ---- one media: it does nothing, or passes its next clock
 

@@ -1,13 +1,11 @@
--- Laws of the anchors that move, and one turn of the loops over them.
+-- Laws of the anchors that move, and of a media that passes a clock.
 use mathlib.Core.Path.{_≡_, refl, sym, ap, _∙_}
 use mathlib.Core.Bool.{Bool, true, false, _&&_, and-false}
 use mathlib.Core.List.{List}
-use Prim.Native.Nat.{ℕ, _+_, _<_, _≤_}
-use borrow.Author.Tests.{eqb-true}
-use lib.ListN.{getD, set}
-use Rattle.base.specs.Tests.{if_then_else_, _=?_, by-test}
+use Prim.Native.Nat.{ℕ}
+use lib.ListN.{getD}
+use Rattle.base.specs.Tests.{if_then_else_, _=?_}
 use Rattle.base.specs.Loops.{pastLast, pastLast-most, pastLast-none, ascending-within}
-use Rattle.base.specs.Marks.{LastFound, found-more}
 use Rattle.machine.specs.Terms.{noTransition, sleeping, occurring, toStop}
 use Rattle.machine.specs.Tables.{anchorAt}
 use Rattle.machine.specs.Events.{Run, withState, anchorState, awake, beginsAt, endsAt, transition, anchorTo, anchorChanged, anchorMoved, anchorsMoved, mediaMoved}
@@ -16,7 +14,7 @@ use Rattle.machine.specs.OfColumns.{anchorsOf}
 use Rattle.machine.specs.declared.Anchors.{Anchors}
 use Rattle.machine.specs.declared.Document.{Document}
 use Rattle.transitions.specs.declared.media.Due.{Due}
-use Rattle.transitions.specs.Due.{dueAt, dueNext, dueOf}
+use Rattle.transitions.specs.Due.{dueAt, dueOf}
 
 -- an anchor that does not move has no transition
 changed-if : (b aborting : Bool) (a new : ℕ) (r : Run)
@@ -37,14 +35,7 @@ pub anchor-moved : (anchors : Anchors) (moves : ℕ → ℕ → ℕ → Bool) (a
 unfolding anchorMoved
 anchor-moved anchors moves aborting n new a r change e p = p ∙ rw e (sym (changed-if _ aborting a new r))
 
--- one anchor more is looked at
-pub found-due : (media times clocks : List ℕ) (a m : ℕ) (table : List ℕ) (is-due : Bool) → m < 64 → m ≡ getD media a 0 → is-due ≡ (getD times a 0 =? getD clocks m 0 + 1)
-    → LastFound (dueNext media times clocks) a table → LastFound (dueNext media times clocks) (a + 1) (if is-due then set table m (a + 1) else table)
-unfolding dueAt dueNext
-found-due media times clocks a m table is-due h e p =
-    found-more _ a m table is-due h (λ n. rw (p, ← e) (by-test (m =? n) (λ q. rw (q, eqb-true m n q)) (λ q. rw q)))
-
--- from the last that is due on none moves
+-- after the last that is due none moves
 module _ (count : ℕ) (media begins ends : List ℕ) (n clock new : ℕ) (r : Run) where
   moved-within : (moves : ℕ → ℕ → ℕ → Bool) (due : ℕ → Bool) → ((a state : ℕ) → due a ≡ false → getD media a 0 =? n && moves (getD begins a 0) (getD ends a 0) state ≡ false)
       → anchorsMoved (anchorsOf (pastLast due count) media begins ends) moves false n new r ≡ anchorsMoved (anchorsOf count media begins ends) moves false n new r

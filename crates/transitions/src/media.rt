@@ -1,4 +1,4 @@
-// An action on a media.
+// An action on a media, and a media that comes to a clock.
 use super::anchors::move_anchors;
 use super::node::node_to;
 use changes::Moving;
@@ -85,8 +85,8 @@ pub fn move_media<'a>(
     node_to(states, clocks, counts, log, v, aborting, n, new)
 }
 
-// What a media has to do at a clock: its anchors that end there are among the first so many, those that begin there likewise,
-// and it stops there itself.
+// What is due for a media at a clock: its anchors that end there are among the first `ending` of all anchors, those that begin
+// there among the first `beginning`; and whether it stops itself.
 pub struct Due {
     pub ending: usize,
     pub beginning: usize,

@@ -1,10 +1,11 @@
--- `transitions::anchors::past_last_due` meets its contract. Assumes nothing.
-use Rattle.transitions.proofs.Prelude.{_≤_, _-_, arith, needs, if_then_else_}
+-- `ticking::past_last_due` meets its contract. Assumes nothing.
+use Rattle.ticking.proofs.Prelude.{_≤_, _-_, arith, needs}
+use Rattle.base.specs.Tests.{if_then_else_}
 use Rattle.base.specs.Marks.{LastFound, found-none, found-done}
-use Rattle.transitions.specs.Due.{dueNext}
-use Rattle.transitions.proofs.AnchorLaws.{found-due}
-use Rattle.transitions.proofs.anchors.past_last_due.Statement.{statement}
-use Rattle.transitions.proofs.anchors.past_last_due.Tie as tie
+use Rattle.ticking.specs.Advancing.{dueNext}
+use Rattle.ticking.proofs.TickLaws.{found-due}
+use Rattle.ticking.proofs.past_last_due.Statement.{statement}
+use Rattle.ticking.proofs.past_last_due.Tie as tie
 
 abbrev Inv-loop : tie.InvT-loop
 Inv-loop anchors media times clocks past₀ next₀ past next = (next ≤ anchors) × LastFound (dueNext media times clocks) next past

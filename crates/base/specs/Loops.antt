@@ -66,6 +66,12 @@ module _ {A : Type 0} (step : ℕ → A → A) where
   ascending-idle zero x idle = refl
   ascending-idle (suc n) x idle = ap (step n) (ascending-idle n x (λ k h. idle k (omega arith))) ∙ idle n (omega arith)
 
+  -- turns that do the same
+  pub ascending-same : (other : ℕ → A → A) (n : ℕ) (x : A) → ((k : ℕ) (y : A) → k < n → step k y ≡ other k y) → ascending step n x ≡ ascending other n x
+  unfolding ascending
+  ascending-same other zero x same = refl
+  ascending-same other (suc n) x same = same n _ (omega arith) ∙ ap (other n) (ascending-same other n x (λ k y h. same k y (omega arith)))
+
   -- turns from k on that change nothing
   pub ascending-within : (k n : ℕ) (x : A) → k ≤ n → ((i : ℕ) (y : A) → k ≤ i → i < n → step i y ≡ y) → ascending step k x ≡ ascending step n x
   unfolding ascending

@@ -3,7 +3,7 @@
 use mathlib.Core.Path.{_≡_, refl, sym, _∙_}
 use mathlib.Core.Bool.{Bool, true, false, _&&_, _||_, and-false, or-false}
 use mathlib.Core.List.{List}
-use Prim.Native.Nat.{ℕ, _+_, _<_, _≤_}
+use Prim.Native.Nat.{ℕ, zero, suc, _+_, _<_, _≤_}
 use native.Mathlib.Nat.{add-zero}
 use native.Mathlib.Numerals.{add-one}
 use native.Mathlib.Omega.{arith}
@@ -12,6 +12,12 @@ use lib.ListN.{length, length-set, getD, set, replicate, getD-replicate}
 use lib.Seq.{getD-set-same, getD-set-other}
 use Rattle.base.specs.Tests.{if_then_else_, _=?_, by-test}
 use Rattle.base.specs.Loops.{some, passing, passing-most, pastLast, pastLast-most}
+
+-- a table of one entry alone has it everywhere, past its end too
+pub zero-at : {A : Type 0} {z : A} (n i : ℕ) → getD (replicate n z) i z ≡ z
+zero-at zero i = refl
+zero-at (suc n) zero = refl
+zero-at (suc n) (suc i) = zero-at n i
 
 -- one entry of a table is stored: where it was to change it has, and the others were to stay
 entry-stored : {A : Type 0} (none : A) (places : ℕ) (table : List A) (m : ℕ) (value : A) (old new : ℕ → A)

@@ -5,11 +5,11 @@ use mathlib.Core.List.{List}
 use Prim.Native.Nat.{ℕ, suc, _+_, _-_, _≤_, _<_}
 use native.Mathlib.Nat.{sub-zero}
 use native.Mathlib.Omega.{arith}
-use borrow.Author.Tests.{eqb-true, eqb-false, ltb-true, lt-ltb, le-ltb}
+use borrow.Author.Tests.{eqb-true, eqb-false, lt-ltb, le-ltb}
 use lib.IntN.{ℤ}
 use lib.ListN.{length, length-set, getD, set}
-use Rattle.base.specs.Tests.{if_then_else_, by-test, both-pass, _=?_, _<?_}
-use Rattle.base.specs.Loops.{first, first-found}
+use Rattle.base.specs.Tests.{if_then_else_, by-test, _=?_, _<?_}
+use Rattle.base.specs.Loops.{first}
 use Rattle.machine.specs.Terms.{noId}
 use Rattle.machine.specs.Tables.{bindAt}
 use Rattle.machine.specs.Records.{isDefault}
@@ -86,22 +86,6 @@ module _ (binds : Binds) (rules : Rules) (values : List ℤ) where
         let i = first (bindHolds binds rules values n) (binds .count) 0 in
         c .child n h ∙ rw sub-zero (by-test (i <? binds .count) (λ e. rw (e, e)) (λ e. rw e));
   }
-
--- ---- what a switch finds is a bind of its own
-
-pub bind-own : (d : Document) (values : List ℤ) (n b : ℕ) → b ≡ foundBind (d .binds) (d .rules) values n → b < d .binds .count → bindAt (d .binds) b .switch ≡ n
-unfolding foundBind if_then_else_ bindHolds
-bind-own d values n b e h =
-    let count = d .binds .count in
-    let i = first (bindHolds (d .binds) (d .rules) values n) count 0 in
-    let j = first (isDefault (d .binds) n) count 0 in
-    by-test (i <? count)
-    (λ t.
-    let s : b ≡ i = e ∙ rw t in
-    rw s (eqb-true _ _ (both-pass _ _ (both-pass _ _ (first-found (bindHolds (d .binds) (d .rules) values n) count 0 (omega (arith, ltb-true i count t))) .0) .0)))
-    (λ t.
-    let s : b ≡ j = e ∙ rw t in
-    rw s (eqb-true _ _ (both-pass _ _ (first-found (isDefault (d .binds) n) count 0 (omega arith)) .0)))
 
 pub sound-binds : {d : Document} → Sound d → SoundBinds (d .binds) (d .rules)
 sound-binds s = record {

@@ -1,5 +1,5 @@
 -- The session of an accepted load is not broken, nothing in it is awake, and nothing is counted: by induction over the records.
-use Prim.Native.Nat.{ℕ, zero, suc, _+_, _*_, _≤_, _<_}
+use Prim.Native.Nat.{ℕ, _+_, _*_, _≤_, _<_}
 use native.Mathlib.Omega.{arith}
 use mathlib.Core.Bool.{true, false, _&&_}
 use mathlib.Core.List.{List, [], _∷_}
@@ -10,6 +10,7 @@ use lib.ListN.{length, getD, set, replicate, length-replicate}
 use borrow.Author.Tests.{eqb-true, eqb-false, leb-false}
 use Rattle.base.specs.Tests.{if_then_else_, _=?_, _<?_, _≤?_, by-test, both-pass}
 use Rattle.base.specs.Loops.{some, some-one}
+use Rattle.base.specs.Marks.{zero-at}
 use Rattle.machine.specs.Terms.{occurring, paused}
 use Rattle.machine.specs.Tables.{emptyDocument, newState, emptySession, parentOf, anchorAt, actionCount, actionAt, withValues}
 use Rattle.machine.specs.Records.{entered}
@@ -88,11 +89,6 @@ finished-accepted (good s) f =
     (λ n e. record { entering = f; limit = omega (arith, eqb-false (s .document .limit) 0 l); root = omega (arith, eqb-false (s .document .nodes .count) 0 n) }))
 
 -- ---- zeros
-
-zero-at : {A : Type 0} {z : A} (n i : ℕ) → getD (replicate n z) i z ≡ z
-zero-at zero i = refl
-zero-at (suc n) zero = refl
-zero-at (suc n) (suc i) = zero-at n i
 
 zeros : {A : Type 0} {z : A} {end places : ℕ} → Filled z end places (replicate places z)
 zeros {places = places} = record { len = length-replicate places _; ends = λ i b. zero-at places i }

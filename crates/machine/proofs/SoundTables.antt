@@ -2,16 +2,19 @@
 use Prim.Native.Nat.{ℕ, zero, suc, _<_, _≤_}
 use native.Mathlib.Omega.{arith}
 use mathlib.Core.Bool.{true, false, _&&_, _||_, true≢false}
+use mathlib.Core.List.{List}
 use mathlib.Core.Logic.{⊎-elim}
 use mathlib.Core.Path.{_≡_, refl, sym, _∙_}
 use lib.Dec.{lit<}
+use lib.IntN.{ℤ}
 use borrow.Author.Tests.{eqb-true, eqb-false, eq-eqb, ne-eqb, ltb-true, leb-true, leb-false, not-true, not-false}
 use Rattle.base.specs.Tests.{if_then_else_, _=?_, _<?_, _≤?_, by-test, both-pass, one-passes, no-fault}
-use Rattle.base.specs.Loops.{every, every-each}
+use Rattle.base.specs.Loops.{every, every-each, first, first-found}
 use Rattle.machine.specs.Terms.{context, media, switch, toSet, simpleRule, compositeRule, noId}
 use Rattle.machine.specs.Tables.{typeOf, parentOf, durationOf, isMedia, given, nodeAt, anchorAt, ruleAt, bindAt, portAt, linkAt, actionCount, actionAt}
 use Rattle.machine.specs.Records.{nodeFieldsRight, parentRight, nodeFault, anchorFault, propertyFault, simpleRuleFault, compositeRuleFault, ruleFault, bindFault, portFault, linkFault, actionRight, targetGiven, actionFault, subjectGiven, transitionRight, isDefault, isPort}
 use Rattle.base.specs.Loops.{some}
+use Rattle.machine.specs.Events.{bindHolds, foundBind}
 use Rattle.machine.specs.Broken.{nodeObeys, anchorObeys, propertyObeys, ruleObeys, bindObeys, portObeys, actionObeys, linkObeys, tablesObey, ruleUnusedZero}
 use Rattle.machine.specs.Sound.{SoundNodes, SoundRules, Applicable, Sound}
 use Rattle.machine.specs.declared.Nodes.{Nodes}
@@ -281,6 +284,21 @@ module _ (d : Document) (o : Obeyed d) where
   link-guard l h =
       let r = linkAt (d .links) l in
       or-none _ _ (both-pass (given (d .nodes) context (r .owner) && subjectGiven d (r .class) (r .subject)) _ (t .links l h .ids) .1)
+
+-- the bind that a switch finds is one of its own
+pub bind-own : (d : Document) (values : List ℤ) (n b : ℕ) → b ≡ foundBind (d .binds) (d .rules) values n → b < d .binds .count → bindAt (d .binds) b .switch ≡ n
+unfolding foundBind if_then_else_ bindHolds
+bind-own d values n b e h =
+    let count = d .binds .count in
+    let i = first (bindHolds (d .binds) (d .rules) values n) count 0 in
+    let j = first (isDefault (d .binds) n) count 0 in
+    by-test (i <? count)
+    (λ t.
+    let s : b ≡ i = e ∙ rw t in
+    rw s (eqb-true _ _ (both-pass _ _ (both-pass _ _ (first-found (bindHolds (d .binds) (d .rules) values n) count 0 (omega (arith, ltb-true i count t))) .0) .0)))
+    (λ t.
+    let s : b ≡ j = e ∙ rw t in
+    rw s (eqb-true _ _ (both-pass _ _ (first-found (isDefault (d .binds) n) count 0 (omega arith)) .0)))
 
 -- an action of a link, or of a command, that passes its two tests
 pub applicable : (d : Document) (a : ActionRecord) → actionRight (a .action) (a .value) ≡ true → targetGiven d (a .action) (a .target) ≡ true → Applicable d a

@@ -1,5 +1,5 @@
 -- Marks: none at first, one rule more, what a mark says; and a rule decided by its mark, or from its two earlier rules.
-use Prim.Native.Nat.{ℕ, zero, suc, _+_, _<_}
+use Prim.Native.Nat.{ℕ, _+_, _<_}
 use mathlib.Core.Bool.{Bool, true, false}
 use mathlib.Core.List.{List}
 use mathlib.Core.Path.{_≡_, refl, ap, _∙_}
@@ -12,16 +12,12 @@ use lib.ListN.{getD, set, replicate, length, length-set}
 use lib.Seq.{getD-set-same, getD-set-other}
 use borrow.Author.Tests.{eqb-true, eqb-false}
 use Rattle.base.specs.Tests.{if_then_else_, _=?_, by-test}
+use Rattle.base.specs.Marks.{zero-at}
 use Rattle.machine.specs.declared.Rules.{Rules}
 use Rattle.machine.specs.Terms.{simpleRule}
 use Rattle.machine.specs.Tables.{ruleAt}
 use Rattle.machine.specs.Deciding.{combined, ruleHolds}
 use Rattle.rules.specs.Memo.{markOf, Marked, Known, Earlier, Decided}
-
-zeros : (n i : ℕ) → _≡_ {A = ℕ} (getD (replicate n 0) i 0) 0
-zeros zero i = refl
-zeros (suc n) zero = refl
-zeros (suc n) (suc i) = zeros n i
 
 -- after a store, what is true of the stored entry and of every other is true of all
 stored : (P : ℕ → ℕ → Type 0) (l : List ℕ) (i x : ℕ) → i < length l → P i x → ((j : ℕ) → (j ≡ i → ⊥) → P j (getD l j 0)) → (j : ℕ) → P j (getD (set l i x) j 0)
@@ -46,7 +42,7 @@ one-marked answer known id x l h e = stored (λ j v. (v ≡ 0 → ⊥) → v ≡
 -- the simple rules are marked by id
 module _ (rules : Rules) (values : List ℤ) where
   pub nothing-known : Known rules values 0 (replicate 32 0)
-  nothing-known = record { places = refl; marked = λ i h. absurd (h (zeros 32 i)); composite = λ i l. absurd (omega arith) }
+  nothing-known = record { places = refl; marked = λ i h. absurd (h (zero-at 32 i)); composite = λ i l. absurd (omega arith) }
 
   module _ {n : ℕ} {known : List ℕ} (k : Known rules values n known) where
     pub simple-known : {holds : Bool} {x : ℕ} → n < 32 → holds ≡ ruleHolds rules values n → x ≡ markOf holds → Known rules values (n + 1) (set known n x)

@@ -8,7 +8,7 @@ use borrow.Author.Tests.{eqb-false, eq-eqb}
 use lib.ListN.{length, length-set, getD, set, replicate}
 use lib.Seq.{getD-set-same, getD-set-other}
 use Rattle.base.specs.Tests.{if_then_else_, by-test, _=?_}
-use Rattle.base.specs.Loops.{ascending, ascending-more}
+use Rattle.base.specs.Loops.{ascending, ascending-more, ascending-same}
 use Rattle.machine.specs.Terms.{sleeping, occurring, toStart}
 use Rattle.machine.specs.Events.{Run, nodeState, transition, nextState, lineFirst, nodeTo, nodeChanged, anchorTo, anchorChanged, anchorsMoved, mediaTo, mediaMoved}
 use Rattle.machine.specs.declared.Anchors.{Anchors}
@@ -59,11 +59,6 @@ media-wakes d n r e = rw e (anchors-leave d _ _ n _ _ r _ (record { states-are =
 
 -- ---- media n at the end of the queue
 
-ascending-same : {A : Type 0} (step other : ℕ → A → A) (n : ℕ) (x : A) → ((k : ℕ) → k < n → step k ≡ other k) → ascending step n x ≡ ascending other n x
-unfolding ascending
-ascending-same step other zero x same = refl
-ascending-same step other (suc n) x same = rw (same n (omega arith), ascending-same step other n x (λ k h. same k (omega arith)))
-
 module _ (media : List ℕ) (count n : ℕ) (h : count < length media) where
   pub moved-more : (anchors : Anchors) (action : ℕ) (r x : Run) → x ≡ queueMoved anchors action (queueOf media count) r
       → mediaMoved anchors action n x ≡ queueMoved anchors action (queueOf (set media count n) (count + 1)) r
@@ -71,7 +66,7 @@ module _ (media : List ℕ) (count n : ℕ) (h : count < length media) where
   moved-more anchors action r x e =
       let turn : List ℕ → ℕ → Run → Run = λ m i. mediaMoved anchors action (getD m i 0) in
       ascending-more (turn (set media count n)) count r
-      (e ∙ ascending-same (turn media) (turn (set media count n)) count r (λ i l. rw (getD-set-other media count i n 0 (λ u. omega arith))))
+      (e ∙ ascending-same (turn media) (turn (set media count n)) count r (λ i _ l. rw (getD-set-other media count i n 0 (λ u. omega arith))))
       (rw (getD-set-same media count n 0 h))
 
   pub ids-more : n < 64 → ((i : ℕ) → i < count → getD media i 0 < 64) → (i : ℕ) → i < count + 1 → getD (set media count n) i 0 < 64

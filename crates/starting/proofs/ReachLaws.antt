@@ -21,7 +21,7 @@ use Rattle.starting.specs.Reaching.{startOf, StartTables, tablesOfStart,
 use Rattle.starting.specs.declared.Queue.{Queue}
 use Rattle.starting.specs.declared.reaching.Start.{Start}
 use Rattle.starting.specs.declared.reaching.Start.the-variants.{Nothing, Media, Context, Switch}
-use Rattle.choosing.proofs.ChoiceLaws.{bind-own}
+use Rattle.machine.proofs.SoundTables.{bind-own}
 use Rattle.starting.proofs.QueueLaws.{awake-stays, room-more, run-more, run-none}
 
 -- the tables of a document

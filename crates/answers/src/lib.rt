@@ -37,6 +37,7 @@ pub fn condition_number(condition: Condition) -> u8
         Condition::EachSetsOnce => 4,
         Condition::EachUnguarded => 5,
         Condition::NoOtherAction => 6,
+        Condition::EachOutsideSwitches => 7,
     }
 }
 

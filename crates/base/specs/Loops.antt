@@ -72,6 +72,12 @@ module _ {A : Type 0} (step : ℕ → A → A) where
   ascending-same other zero x same = refl
   ascending-same other (suc n) x same = same n _ (omega arith) ∙ ap (other n) (ascending-same other n x (λ k y h. same k y (omega arith)))
 
+  -- turns that commute with a function
+  pub ascending-through : (f : A → A) (n : ℕ) (x : A) → ((k : ℕ) (y : A) → step k (f y) ≡ f (step k y)) → ascending step n (f x) ≡ f (ascending step n x)
+  unfolding ascending
+  ascending-through f zero x through = refl
+  ascending-through f (suc n) x through = ap (step n) (ascending-through f n x through) ∙ through n _
+
   -- turns from k on that change nothing
   pub ascending-within : (k n : ℕ) (x : A) → k ≤ n → ((i : ℕ) (y : A) → k ≤ i → i < n → step i y ≡ y) → ascending step k x ≡ ascending step n x
   unfolding ascending

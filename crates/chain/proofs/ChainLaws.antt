@@ -1,6 +1,6 @@
 -- Laws of the chain that the loops cite.
-use mathlib.Core.Path.{_≡_, ap, _∙_}
-use mathlib.Core.Bool.{Bool, true, false, _&&_, and-false}
+use mathlib.Core.Path.{_≡_, sym, ap, _∙_}
+use mathlib.Core.Bool.{Bool, true, false, _&&_, and-false, and-assoc}
 use Prim.Native.Nat.{ℕ, suc, _+_, _-_, _<_, _≤_}
 use native.Mathlib.Omega.{arith}
 use borrow.Author.Tests.{lt-ltb, le-ltb}
@@ -9,7 +9,9 @@ use Rattle.base.specs.Tests.{if_then_else_, _=?_, _<?_, by-test}
 use Rattle.base.specs.Loops.{ascending-none, ascending-idle}
 use Rattle.machine.specs.Tables.{linkAt, actionCount}
 use Rattle.machine.specs.Log.{line}
+use Rattle.machine.specs.Deciding.{guardHolds}
 use Rattle.machine.specs.Events.{Run}
+use Rattle.machine.specs.Owners.{pathChosen, ownerChosen}
 use Rattle.machine.specs.Chain.{fires, goesOn, actionRun, actionsRun, limitMet, fired, linkTried, lineTaken, linesTaken}
 use Rattle.machine.specs.declared.Document.{Document}
 use Rattle.machine.specs.declared.Line.{Line}
@@ -34,28 +36,38 @@ begun-fired : (d : Document) (l : ℕ) (r : Run) → actionsRun d l (firingBegun
 unfolding firingBegun fired if_then_else_
 begun-fired d l r = by-test (r .firings <? d .limit) (λ e. rw e) (λ e. rw e (actions-idle d l _ (limit-stops r)))
 
+-- whether a link may fire, by what was asked of its owner
+pub may-is : (d : Document) (l : ℕ) (r : Run) {owner : ℕ} {path may : Bool} → owner ≡ linkAt (d .links) l .owner → path ≡ pathChosen (d .nodes) (r .state .choices) owner
+    → may ≡ goesOn r && path && guardHolds (d .rules) (r .state .properties .values) (linkAt (d .links) l .guard) → may ≡ mayFire d l r
+unfolding mayFire ownerChosen
+may-is d l r o p m = m ∙ rw (p, o)
+
 -- the turn of a link that does not hear the line, of one that hears it and may not fire, and of one that fires
 module _ (d : Document) (x : Line) (l : ℕ) (r : Run) where
   abbrev hearing : Bool
   hearing = linkAt (d .links) l .class =? x .class && linkAt (d .links) l .subject =? x .id && linkAt (d .links) l .transition =? x .transition
 
   module _ {hears : Bool} (e : hears ≡ hearing) where
-    pub not-heard : hears ≡ false → r ≡ linkTried d x l r
+    pub not-heard : hears ≡ false → r ≡ linkTried ownerChosen d x l r
     unfolding fires linkTried if_then_else_
     not-heard h = rw (← e, h, and-false)
 
     module _ (h : hears ≡ true) {may : Bool} (f : may ≡ mayFire d l r) where
-      pub may-not : may ≡ false → r ≡ linkTried d x l r
-      unfolding fires linkTried mayFire if_then_else_
-      may-not m = rw (← e, h, ← f, m)
+      asked : goesOn r && fires ownerChosen d (r .state) x l ≡ may
+      unfolding fires mayFire
+      asked = rw (← e, h, f) (sym (and-assoc (goesOn r) _ _))
 
-      pub fires-now : {y z : Run} → may ≡ true → y ≡ firingBegun (d .limit) l r → z ≡ actionsRun d l y → z ≡ linkTried d x l r
-      unfolding fires linkTried mayFire if_then_else_
-      fires-now m p q = q ∙ ap (actionsRun d l) p ∙ begun-fired d l r ∙ rw (← e, h, ← f, m)
+      pub may-not : may ≡ false → r ≡ linkTried ownerChosen d x l r
+      unfolding linkTried if_then_else_
+      may-not m = rw (asked, m)
+
+      pub fires-now : {y z : Run} → may ≡ true → y ≡ firingBegun (d .limit) l r → z ≡ actionsRun d l y → z ≡ linkTried ownerChosen d x l r
+      unfolding linkTried if_then_else_
+      fires-now m p q = q ∙ ap (actionsRun d l) p ∙ begun-fired d l r ∙ rw (asked, m)
 
 -- one line of the chain, and its end
-module _ (d : Document) (n k : ℕ) (r : Run) {z : Run} (e : linesTaken d (n - k) k r ≡ z) where
-  pub chain-more : k < n → goesOn r ≡ true → k < length (r .log .lines) → linesTaken d (n - (k + 1)) (k + 1) (lineTaken d (getD (r .log .lines) k (line 0 0 0)) r) ≡ z
+module _ (d : Document) (n k : ℕ) (r : Run) {z : Run} (e : linesTaken ownerChosen d (n - k) k r ≡ z) where
+  pub chain-more : k < n → goesOn r ≡ true → k < length (r .log .lines) → linesTaken ownerChosen d (n - (k + 1)) (k + 1) (lineTaken ownerChosen d (getD (r .log .lines) k (line 0 0 0)) r) ≡ z
   unfolding linesTaken if_then_else_
   chain-more h g l =
       let s : n - k ≡ suc (n - (k + 1)) = omega arith in

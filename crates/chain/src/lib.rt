@@ -1,4 +1,6 @@
 // The chain of links: the lines of the log are taken in order, those too that are written meanwhile, and links fire on them.
+use base::index_of;
+use choices::path_chosen;
 use events::Work;
 use log::Written;
 use log::emit;
@@ -18,6 +20,7 @@ ghost use Rattle.base.specs.Tests.{_=?_};
 ghost use Rattle.machine.specs.Answers.{checkNumber};
 ghost use Rattle.machine.specs.Terms.{noId};
 ghost use Rattle.machine.specs.Deciding.{guardHolds};
+ghost use Rattle.machine.specs.Owners.{ownerChosen};
 ghost use Rattle.machine.specs.Chain.{actionsRun, chained};
 ghost use Rattle.machine.specs.Sound.{SoundRules, Sound};
 ghost use Rattle.events.specs.Running.{run};
@@ -30,7 +33,7 @@ fn run_actions(d: Document, w: Work, log: &mut [u8], l: usize) -> Work
 {
     let mut t = w;
     let links = d.links;
-    let end = base::index_of(links.action_counts[l]);
+    let end = index_of(links.action_counts[l]);
     let mut next = 0;
     while next < end {
         let j = next;
@@ -73,12 +76,12 @@ fn begin_firing(w: Work, log: &mut [u8], limit: u8, l: usize) -> Work
     t
 }
 
-// Whether a link that hears a line fires: nothing stops the call, and its guard holds now.
-fn may_fire(written: Written, rules: Rules, values: [i32; 32], guard: u8) -> bool
+// Whether a link that hears a line fires: nothing stops the call, the path to its owner is chosen, and its guard holds now.
+fn may_fire(written: Written, chosen: bool, rules: Rules, values: [i32; 32], guard: u8) -> bool
     requires { ⌜ ((guard ≡ noId → ⊥) → guard < rules .count) × SoundRules 32 rules ⌝ }
-    ensures { λ b. ⌜ b ≡ checkNumber (written .stop) =? 0 && guardHolds rules values guard ⌝ }
+    ensures { λ b. ⌜ b ≡ checkNumber (written .stop) =? 0 && chosen && guardHolds rules values guard ⌝ }
 {
-    if goes_on(written) {
+    if goes_on(written) & chosen {
         return rules::guard_holds(rules, values, guard);
     }
     false
@@ -101,9 +104,10 @@ fn hears(class: u8, subject: u8, transition: u8, x: Line) -> bool
 // Both loops stand here, so that the document is handed over only where a link that fires has actions.
 pub fn run_chain(d: Document, w: Work, log: &mut [u8]) -> Work
     requires { ⌜ Sound d ⌝ }
-    ensures { λ r. ⌜ run r (now (log .exit)) ≡ chained d (run w (now (log .entry))) ⌝ }
+    ensures { λ r. ⌜ run r (now (log .exit)) ≡ chained ownerChosen d (run w (now (log .entry))) ⌝ }
 {
     let mut t = w;
+    let nodes = d.nodes;
     let links = d.links;
     let end = links.count;
     let room = log.len() / 4;
@@ -124,8 +128,11 @@ pub fn run_chain(d: Document, w: Work, log: &mut [u8]) -> Work
             let l = link;
             link += 1;
             if hears(links.classes[l], links.subjects[l], links.transitions[l], x) {
+                let choices = t.choices;
+                let owner = index_of(links.owners[l]);
+                let chosen = path_chosen(&nodes.types, &nodes.parents, &choices, owner);
                 let values = t.property_values;
-                if may_fire(t.written, d.rules, values, links.guards[l]) {
+                if may_fire(t.written, chosen, d.rules, values, links.guards[l]) {
                     t = begin_firing(t, &mut *log, d.limit, l);
                     if links.action_counts[l] > 0 {
                         t = run_actions(d, t, &mut *log, l);

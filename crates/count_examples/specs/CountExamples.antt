@@ -47,9 +47,9 @@ gives : List Bool → Bool → ℕ → ℕ → ℕ → Outcome
 gives conditions inside count last value =
     record { conditions = conditions; inside = inside; count = pos count; last = pos last; value = pos value }
 
--- which of the six conditions hold
+-- which of the seven conditions hold
 all : List Bool
-all = true ∷ true ∷ true ∷ true ∷ true ∷ true ∷ []
+all = true ∷ true ∷ true ∷ true ∷ true ∷ true ∷ true ∷ []
 
 but : ℕ → List Bool
 but n = set all n false
@@ -72,6 +72,12 @@ overlapping = anchors "02 01 01 00 03 00" "02 01 02 00 03 00" ++ links
 -- the second link fires if the property is 99
 guarded : List ℕ
 guarded = frames ++ bytes "04 00 00 63 00 00 00  08 00 02 00 01 FF  09 06 00 0A 00 00 00  08 00 02 01 01 00  09 06 00 14 00 00 00"
+
+-- the links are of context 3, the default of switch 2, which has not been started
+inSwitch : List ℕ
+inSwitch =
+    bytes "00 09  01 00 FF 00 00  01 01 00 04 00  01 02 00 00 00  01 00 02 00 00  02 01 01 00 02 00  02 01 02 00 03 00  03 07 00 00 00"
+    ++ bytes "06 02 03 FF  07 00 01  08 03 02 00 01 FF  09 06 00 0A 00 00 00  08 03 02 01 01 FF  09 06 00 14 00 00 00"
 
 -- the calls that bring media 1 to clock 1, and to clock 2
 toOne : List (Call × ℕ)
@@ -104,13 +110,15 @@ examples =
     ∷ (outcome guarded toTwo 1, gives (but 4) true 20 20 10)
     -- 6. another action that sets p: of a link on key 7
     ∷ (outcome (frames ++ links ++ bytes "08 00 04 07 01 FF  09 06 00 05 00 00 00") (toTwo ++ (whole (Key 7) ∷ [])) 1, gives (but 5) true 20 20 5)
+    -- 7. links of a variant that the switch above has not chosen
+    ∷ (outcome inSwitch toTwo 1, gives (but 6) true 20 20 7)
     -- an accepted command that sets p
     ∷ (outcome (frames ++ links) (toTwo ++ (setTo 0 (pos 5) ∷ [])) 1, gives all true 20 20 5)
     ∷ []
 
 pub examples-hold : All (λ (e : Outcome × Outcome). e .0 ≡ e .1) examples
-unfolding machine-computes digit pairs bytes whole on setTo outcome gives all but anchors frames links overlapping guarded toOne toTwo examples
-examples-hold = (refl, (refl, (refl, (refl, (refl, (refl, (refl, (refl, (refl, (refl, (refl, (refl, (refl, (refl, tt))))))))))))))
+unfolding machine-computes digit pairs bytes whole on setTo outcome gives all but anchors frames links overlapping guarded inSwitch toOne toTwo examples
+examples-hold = (refl, (refl, (refl, (refl, (refl, (refl, (refl, (refl, (refl, (refl, (refl, (refl, (refl, (refl, (refl, tt)))))))))))))))
 
 -- ---- the answers of the check and of an anchor's count
 

@@ -26,9 +26,10 @@ fn first_of(
     each_sets_once: bool,
     each_unguarded: bool,
     no_other: bool,
+    each_outside_switches: bool,
 ) -> Verdict
     ensures { λ c. ⌜ verdictNumber c ≡ firstFailing 1 («has_anchor» ∷ disjoint ∷ «each_has_one_link»
-        ∷ «each_sets_once» ∷ «each_unguarded» ∷ «no_other» ∷ []) ⌝ }
+        ∷ «each_sets_once» ∷ «each_unguarded» ∷ «no_other» ∷ «each_outside_switches» ∷ []) ⌝ }
 {
     if !has_anchor {
         return Verdict::Failed(Condition::HasAnchor);
@@ -47,6 +48,9 @@ fn first_of(
     }
     if !no_other {
         return Verdict::Failed(Condition::NoOtherAction);
+    }
+    if !each_outside_switches {
+        return Verdict::Failed(Condition::EachOutsideSwitches);
     }
     Verdict::Passed
 }
@@ -68,6 +72,7 @@ pub fn first_failing(d: Document, media: u8, property: u8) -> Verdict
         found.each_sets_once,
         found.each_unguarded,
         found.no_other,
+        found.each_outside_switches,
     )
 }
 

@@ -1,5 +1,6 @@
 // The conditions on the links that set a property.
 use base::index_of;
+use choices::path_chosen;
 use machine::Document;
 use machine::terms;
 ghost use mathlib.Core.Path.{_≡_};
@@ -10,7 +11,7 @@ ghost use Rattle.base.specs.Tests.{if_then_else_, _=?_, _<?_};
 ghost use Rattle.base.specs.Marks.{Numbered};
 ghost use Rattle.machine.specs.Terms.{toSet, starts, ofAnchor};
 ghost use Rattle.machine.specs.Tables.{actionCount};
-ghost use Rattle.machine.specs.Counts.{timesSet, isCountLinkOf, eachSetsOnce, eachUnguarded, noOther, countLink, countAction};
+ghost use Rattle.machine.specs.Counts.{timesSet, isCountLinkOf, eachSetsOnce, eachUnguarded, noOther, eachOutsideSwitches, countLink, countAction};
 ghost use Rattle.machine.specs.Sound.{Sound};
 
 // What one sweep over the links finds: for each anchor how many links on its start set the property, and whether the conditions on links hold.
@@ -19,6 +20,7 @@ pub struct Findings {
     pub each_sets_once: bool,
     pub each_unguarded: bool,
     pub no_other: bool,
+    pub each_outside_switches: bool,
 }
 
 // An action that sets the property.
@@ -82,18 +84,23 @@ pub fn sweep(d: Document, m: u8, property: u8) -> Findings
     ensures { λ r. ⌜ Numbered (isCountLinkOf d property) (d .links .count) (r .linked)
         × (r .«each_sets_once» ≡ eachSetsOnce d m property)
         × (r .«each_unguarded» ≡ eachUnguarded d m property)
-        × (r .«no_other» ≡ noOther d m property) ⌝ }
+        × (r .«no_other» ≡ noOther d m property)
+        × (r .«each_outside_switches» ≡ eachOutsideSwitches d m property) ⌝ }
 {
+    let nodes = d.nodes;
     let anchors = d.anchors;
     let media = anchors.media;
     let links = d.links;
     let actions = d.actions;
     let kinds = actions.actions;
     let targets = actions.targets;
+    // where no switch has chosen, a path is chosen exactly if no switch lies above
+    let none_chosen = [0u8; 64];
     let mut linked: [u8; 256] = [0u8; 256];
     let mut each_sets_once = true;
     let mut each_unguarded = true;
     let mut no_other = true;
+    let mut each_outside_switches = true;
     let mut next = 0;
     while next < d.links.count {
         let l = next;
@@ -107,12 +114,16 @@ pub fn sweep(d: Document, m: u8, property: u8) -> Findings
         each_sets_once = each_sets_once & (!own | (times == 1));
         each_unguarded = each_unguarded & (!own | (links.guards[l] == terms::NO_ID));
         no_other = no_other & ((times == 0) | own);
+        let owner = index_of(links.owners[l]);
+        let outside = path_chosen(&nodes.types, &nodes.parents, &none_chosen, owner);
+        each_outside_switches = each_outside_switches & (!own | outside);
     }
     Findings {
         linked,
         each_sets_once,
         each_unguarded,
         no_other,
+        each_outside_switches,
     }
 }
 

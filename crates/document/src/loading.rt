@@ -105,6 +105,7 @@ fn new_state() -> State
             values: [0i32; 32],
             counts: [0u32; 32],
         },
+        choices: [0u8; 64],
     }
 }
 

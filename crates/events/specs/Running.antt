@@ -8,7 +8,7 @@ use Rattle.transitions.specs.Lent.{Rest, runWith}
 use Rattle.events.specs.declared.Work.{Work}
 
 abbrev pub restOf : Work → Rest
-restOf w = record { properties = propertyEventsOf (w .«property_values») (w .«property_counts»); firings = w .firings }
+restOf w = record { properties = propertyEventsOf (w .«property_values») (w .«property_counts»); choices = w .choices; firings = w .firings }
 
 abbrev pub run : Work → List ℕ → Run
 run w bytes =

@@ -15,15 +15,19 @@ ghost use Rattle.machine.specs.Events.{started, performed, acted};
 ghost use Rattle.machine.specs.Sound.{Applicable, Sound};
 ghost use Rattle.events.specs.Running.{run};
 
-// Start of node n: of the media that it reaches, one after the other.
+// Start of node n: of the media that it reaches, one after the other; with the choices of the switches that it reaches.
 fn start_node(d: Document, w: Work, log: &mut [u8], n: usize) -> Work
     requires { ⌜ Sound d × (n < d .nodes .count) ⌝ }
     ensures { λ r. ⌜ run r (now (log .exit)) ≡ started d 64 n (run w (now (log .entry))) ⌝ }
 {
     let states = w.node_states;
     let values = w.property_values;
-    let queue = media_of_start(d, states, values, n);
-    move_each(d.anchors, w, log, terms::TO_START, queue)
+    let choices = w.choices;
+    let reach = media_of_start(d, states, values, choices, n);
+    let mut t = move_each(d.anchors, w, log, terms::TO_START, reach.queue);
+    let after = reach.choices;
+    t.choices = after;
+    t
 }
 
 fn perform(d: Document, w: Work, log: &mut [u8], a: ActionRecord) -> Work

@@ -28,6 +28,7 @@ pub struct Work {
     pub anchor_counts: [u32; 128],
     pub property_values: [i32; 32],
     pub property_counts: [u32; 32],
+    pub choices: [u8; 64],
     pub written: Written,
     pub firings: u8,
 }
@@ -46,6 +47,7 @@ pub fn work_of(s: State) -> Work
     let properties = s.properties;
     let property_values = properties.values;
     let property_counts = properties.counts;
+    let choices = s.choices;
     let written = Written {
         lines: 0,
         stop: Check::Passed,
@@ -58,6 +60,7 @@ pub fn work_of(s: State) -> Work
         anchor_counts,
         property_values,
         property_counts,
+        choices,
         written,
         firings: 0,
     }
@@ -81,9 +84,11 @@ pub fn state_of(w: Work) -> State
     let values = w.property_values;
     let counts = w.property_counts;
     let properties = PropertyEvents { values, counts };
+    let choices = w.choices;
     State {
         nodes,
         anchors,
         properties,
+        choices,
     }
 }

@@ -15,7 +15,7 @@ use Rattle.machine.specs.Events.{Run}
 use Rattle.machine.specs.Tick.{keyed}
 use Rattle.machine.specs.Chain.{goesOn}
 use Rattle.machine.specs.Broken.{broken}
-use Rattle.machine.specs.Operations.{CallResult, commandFault, argumentFault, begun, commandSets, freshRun, runOf, callRefused, ended, call, sessionAfter, resultsOf, joined}
+use Rattle.machine.specs.Operations.{CallResult, commandFault, argumentFault, begun, commandSets, freshRun, runAdmitting, runOf, callRefused, ended, callAdmitting, call, sessionAfter, resultsOf, joined}
 use Rattle.machine.specs.Counts.{valueOf}
 use Rattle.machine.specs.Demand3.{number, ReportsFirings, Each}
 use Rattle.machine.specs.Sound.{Applicable, Sound}
@@ -29,7 +29,7 @@ use Rattle.machine.proofs.SoundTables.{applicable}
 use Rattle.machine.proofs.Keep.{Actions, actions, steps, chained-keeps, chosen}
 use Rattle.machine.proofs.Tally.{Tallied, TalliedRun, tallies}
 use Rattle.machine.proofs.Firings.{FiredRun, firings, read-back}
-use Rattle.machine.proofs.Shape.{Shaped, ShapedRun, HasArrays, state-ends, ends-shaped}
+use Rattle.machine.proofs.Shape.{Shaped, ShapedRun, HasArrays, state-ends, choices-right, ends-shaped}
 use Rattle.machine.proofs.Values.{acted-value, ticked-value}
 use Rattle.machine.proofs.Settling.{RightRun, rights}
 use Rattle.machine.proofs.Whole.{WholeTests, whole, unbroken-sound, not-broken, states-right, right-states}
@@ -63,7 +63,7 @@ pub call-gives : (s : Session) (c : Call) (bytes : ℕ) (P : CallResult → Type
     → ((number : ℕ) → (number ≡ 0 → ⊥) → (number ≡ 13 → Thirteen s c bytes) → P (callRefused number s bytes))
     → (argumentFault (s .document) c ≡ 0 → runOf s c bytes .log .stop ≡ 0 → P (acceptedRun s bytes (runOf s c bytes)))
     → P (call s c bytes)
-unfolding call ended goesOn
+unfolding callAdmitting ended goesOn
 call-gives s c bytes P refused kept =
     chosen P _ (λ b. refused 13 (λ e. omega arith) (λ _. inl b))
     (λ _. chosen P _ (λ f. refused _ (eqb-false _ _ (not-true _ f)) (λ q. absurd (argument-not-13 (s .document) c q)))
@@ -96,8 +96,8 @@ module _ (s : Session) (unbroken : broken s ≡ false) where
     begun-keeps Tick e r k = keep .tick r k
 
     pub run-keeps : (c : Call) (bytes : ℕ) → argumentFault d c ≡ 0 → P (freshRun (s .state) bytes) → P (runOf s c bytes)
-    unfolding runOf
-    run-keeps c bytes e k = chained-keeps d P facts keep _ (begun-keeps c e _ k)
+    unfolding runAdmitting
+    run-keeps c bytes e k = chained-keeps d P facts keep _ _ (begun-keeps c e _ k)
 
   -- what a call does before the chain leaves the value of p, if it is no command that sets it
   pub begun-value : (p : ℕ) (c : Call) → argumentFault d c ≡ 0 → commandSets p c ≡ false → (r : Run) → ShapedRun d r → valueOf (begun d c r .state) p ≡ valueOf (r .state) p
@@ -119,13 +119,14 @@ module _ (s : Session) (unbroken : broken s ≡ false) where
         document-ends = tests .document-ends;
         state-ends = state-ends d (r .state) (right .timed .shaped);
         states = right-states d (r .state) (record { timed = right .timed .timed; composed = right .composed });
+        choices = choices-right d (r .state) (right .timed .shaped);
       })
 
   pub call-unbroken : HasArrays (s .state) → (c : Call) (bytes : ℕ) → broken (call s c bytes .session) ≡ false
   unfolding callRefused
   call-unbroken arrays c bytes =
       call-gives s c bytes (λ r. broken (r .session) ≡ false) (λ _ _ _. unbroken)
-      (λ e _. right-unbroken _ (run-keeps _ (rights d facts) c bytes e (first-right (ends-shaped d (s .state) arrays (tests .state-ends)) bytes)))
+      (λ e _. right-unbroken _ (run-keeps _ (rights d facts) c bytes e (first-right (ends-shaped d (s .state) arrays (tests .state-ends) (tests .choices)) bytes)))
 
 -- ---- all that is kept, together
 

@@ -32,6 +32,14 @@ module _ {A : Type 0} {z : A} {n places : ℕ} {l : List A} where
 pub more : {A : Type 0} {z : A} {n places : ℕ} {l : List A} (x : A) → Filled z n places l → Filled z (n + 1) places (set l n x)
 more x c = stored _ x (omega arith) (longer c)
 
+-- what holds of an entry and of what is stored at i holds of the entry then
+pub stored-entry : (P : ℕ → ℕ → Bool) (l : List ℕ) (i x k : ℕ) → P i x ≡ true → P k (getD l k 0) ≡ true → P k (getD (set l i x) k 0) ≡ true
+stored-entry P [] i x k new old = old
+stored-entry P (y ∷ l) zero x zero new old = new
+stored-entry P (y ∷ l) zero x (suc k) new old = old
+stored-entry P (y ∷ l) (suc i) x zero new old = old
+stored-entry P (y ∷ l) (suc i) x (suc k) new old = stored-entry (λ n. P (suc n)) l i x k new old
+
 all-zero : {A : Type 0} (test : A → Bool) (z : A) → test z ≡ true → (l : List A) (n : ℕ) → ((i : ℕ) → n ≤ i → getD l i z ≡ z) → all test (drop n l) ≡ true
 unfolding all
 all-zero test z e [] zero p = refl

@@ -9,7 +9,7 @@ use borrow.Author.Tests.{ne-eqb}
 use Rattle.base.specs.Tests.{if_then_else_}
 use Rattle.machine.specs.Terms.{noId}
 use Rattle.machine.specs.Load.{load}
-use Rattle.machine.specs.Operations.{argumentFault, commandSets, runOf, callRefused, call, sessionAfter, resultsOf, joined}
+use Rattle.machine.specs.Operations.{argumentFault, commandSets, runAdmitting, runOf, callRefused, call, sessionAfter, resultsOf, joined}
 use Rattle.machine.specs.Demand3.{number}
 use Rattle.machine.specs.Counts.{showsCounts, lastStarted, lastCount, valueOf, NeverSets, CountsForEveryList}
 use Rattle.machine.specs.Sound.{Sound}
@@ -54,7 +54,7 @@ module _ (m p : ℕ) (before : ℤ) (h : List Line) (s : Session) (invariant : I
 
   run-value : (c : Call) (bytes : ℕ) → argumentFault d c ≡ 0 → commandSets p c ≡ false → runOf s c bytes .log .stop ≡ 0
       → valueOf (runOf s c bytes .state) p ≡ lastCount d m p before (h ++ runOf s c bytes .log .lines)
-  unfolding runOf
+  unfolding runAdmitting
   run-value c bytes e n =
       chained-value d facts p m showing before h _
       (begun-keeps s (invariant .unbroken) (ShapedRun d) (actions d _ facts (steps d _ (shapes d))) c e _ (invariant .shaped))

@@ -8,11 +8,12 @@ use lib.ListN.{length, getD, set, length-set}
 use lib.Seq.{getD-set-same, getD-set-other}
 use borrow.Author.Tests.{eqb-true, eqb-false, eq-eqb, ne-eqb}
 use Rattle.base.specs.Tests.{if_then_else_, _=?_, _≤?_, by-test}
-use Rattle.base.specs.Loops.{ascending-turns}
-use Rattle.machine.specs.Terms.{sleeping, noTransition, starts}
+use Rattle.base.specs.Loops.{ascending-turns, ascending-through}
+use Rattle.machine.specs.Terms.{sleeping, toAbort, noTransition, starts}
 use Rattle.machine.specs.Tables.{anchorAt}
-use Rattle.machine.specs.Events.{Run, nodeState, nodeClock, anchorState, awake, transition, clocked, nodeChanged, nodeTo, anchorChanged, anchorTo, anchorMoved, anchorsMoved}
+use Rattle.machine.specs.Events.{Run, nodeState, nodeClock, anchorState, awake, transition, clocked, nextState, follows, lineFirst, choicesSet, nodeChanged, nodeTo, anchorChanged, anchorTo, anchorMoved, anchorsMoved, mediaTo, mediaMoved}
 use Rattle.machine.specs.Demand3.{Awake}
+use Rattle.machine.specs.declared.Anchors.{Anchors}
 use Rattle.machine.specs.declared.Document.{Document}
 use Rattle.machine.proofs.Keep.{chosen}
 
@@ -119,6 +120,37 @@ node-moves aborting n new x h k =
 pub node-leaves-anchors : (aborting : Bool) (n new : ℕ) (x : Run) → nodeTo aborting n new x .state .anchors .states ≡ x .state .anchors .states
 unfolding nodeTo nodeChanged
 node-leaves-anchors aborting n new x = chosen (λ (y : Run). y .state .anchors .states ≡ x .state .anchors .states) _ (λ _. refl) (λ _. refl)
+
+-- ---- the moves of a media neither read nor change choices
+
+module _ (choices : List ℕ) where
+  node-any-choices : (aborting : Bool) (n new : ℕ) (r : Run) → nodeTo aborting n new (choicesSet choices r) ≡ choicesSet choices (nodeTo aborting n new r)
+  unfolding nodeTo nodeChanged if_then_else_
+  node-any-choices aborting n new r = by-test (transition aborting (nodeState (r .state) n) new =? noTransition) (λ e. rw e) (λ e. rw e)
+
+  anchor-any-choices : (aborting : Bool) (a new : ℕ) (r : Run) → anchorTo aborting a new (choicesSet choices r) ≡ choicesSet choices (anchorTo aborting a new r)
+  unfolding anchorTo anchorChanged if_then_else_
+  anchor-any-choices aborting a new r = by-test (transition aborting (anchorState (r .state) a) new =? noTransition) (λ e. rw e) (λ e. rw e)
+
+  module _ (anchors : Anchors) where
+    anchors-any-choices : (moves : ℕ → ℕ → ℕ → Bool) (aborting : Bool) (n new : ℕ) (r : Run)
+        → anchorsMoved anchors moves aborting n new (choicesSet choices r) ≡ choicesSet choices (anchorsMoved anchors moves aborting n new r)
+    unfolding anchorsMoved anchorMoved if_then_else_
+    anchors-any-choices moves aborting n new r =
+        ascending-through _ (choicesSet choices) (anchors .count) r
+        (λ a y. by-test (anchorAt anchors a .media =? n && moves (anchorAt anchors a .begin) (anchorAt anchors a .end) (anchorState (y .state) a)) (λ e. rw e (anchor-any-choices aborting a new y)) (λ e. rw e))
+
+    pub media-any-choices : (action n : ℕ) (r : Run) → mediaMoved anchors action n (choicesSet choices r) ≡ choicesSet choices (mediaMoved anchors action n r)
+    unfolding mediaMoved mediaTo if_then_else_
+    media-any-choices action n r =
+        let old = nodeState (r .state) n in
+        let new = nextState old action in
+        let aborting = action =? toAbort in
+        by-test (old =? new) (λ e. rw e)
+        (λ e. rw e
+        (by-test (lineFirst action)
+        (λ f. rw f (rw (node-any-choices aborting n new r) (anchors-any-choices (follows action) aborting n new (nodeTo aborting n new r))))
+        (λ f. rw f (rw (anchors-any-choices (follows action) aborting n new r) (node-any-choices aborting n new (anchorsMoved anchors (follows action) aborting n new r))))))
 
 -- ---- a move of an anchor
 

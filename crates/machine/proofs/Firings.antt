@@ -11,7 +11,7 @@ use lib.ListN.{length, replicate}
 use Rattle.base.specs.Tests.{if_then_else_, _=?_}
 use Rattle.machine.specs.Terms.{noTransition}
 use Rattle.machine.specs.Log.{Log, met, logged, bytesOf, sliceWith, linesOf}
-use Rattle.machine.specs.Events.{Run, transition, nodeChanged, nodeTo, anchorChanged, anchorTo, setProperty}
+use Rattle.machine.specs.Events.{Run, transition, nodeChanged, nodeTo, anchorChanged, anchorTo, setProperty, choiceMade}
 use Rattle.machine.specs.Tick.{keyed}
 use Rattle.machine.specs.Chain.{firingLogged, limitMet}
 use Rattle.machine.specs.Demand3.{isFired, firedLines}
@@ -99,12 +99,13 @@ module _ (d : Document) where
   anchor-keeps a new change r p = chosen FiredRun (change =? noTransition) (λ _. p) (λ _. plain _ _ _ (r .log) (lit< tt) refl p)
 
   pub firings : Primitives d FiredRun
-  unfolding nodeTo anchorTo setProperty keyed firingLogged limitMet isFired oneIf if_then_else_
+  unfolding nodeTo anchorTo setProperty choiceMade keyed firingLogged limitMet isFired oneIf if_then_else_
   firings = record {
     moves = record {
       node = λ aborting n new r _ p. node-keeps n new _ r p;
       anchor = λ aborting a new r _ p. anchor-keeps a new _ r p;
       clock = λ n clock r _ p. p;
+      choice = λ n c r _ p. p;
     };
     property = λ i value r _ p. plain _ _ _ _ (lit< tt) refl (plain _ _ _ (r .log) (lit< tt) refl p);
     lines = record {

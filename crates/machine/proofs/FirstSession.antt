@@ -16,7 +16,7 @@ use Rattle.machine.specs.Tables.{emptyDocument, newState, emptySession, 
 use Rattle.machine.specs.Records.{entered}
 use Rattle.machine.specs.Load.{OrFault, good, faulty, recordsEntered, placeFault, LoadResult, finished, load}
 use Rattle.machine.specs.Events.{childIn, childrenState}
-use Rattle.machine.specs.Broken.{anchorStateIn, tablesObey}
+use Rattle.machine.specs.Broken.{anchorStateIn, tablesObey, choiceRight}
 use Rattle.machine.specs.Demand3.{number, Awake}
 use Rattle.machine.specs.declared.Document.{Document}
 use Rattle.machine.specs.declared.State.{State}
@@ -26,7 +26,7 @@ use Rattle.machine.specs.declared.Record.the-variants.{Head, Node, Ancho
 use Rattle.machine.proofs.SoundTables.{ActionPasses, node-passes, anchor-passes, property-passes, rule-passes, bind-passes, port-passes, link-passes, action-passes}
 use Rattle.machine.proofs.Keep.{chosen}
 use Rattle.machine.proofs.Tally.{oneIfAwake}
-use Rattle.machine.proofs.Shape.{Shaped, state-ends}
+use Rattle.machine.proofs.Shape.{Shaped, state-ends, choices-right}
 use Rattle.machine.proofs.Times.{choice-same}
 use Rattle.machine.proofs.Whole.{Right, right-states, not-broken}
 use Rattle.machine.proofs.Calls.{Invariant}
@@ -135,14 +135,18 @@ module _ (d : Document) (l : Loading d) (values : List ℤ) (v : Filled (pos 0) 
     composed = record { rule = λ c h type. zero-at 64 c ∙ sym (rw (no-child occurring c (λ e. omega arith), no-child paused c (λ e. omega arith))) };
   }
 
+  no-choice : (n : ℕ) → choiceRight (d .nodes) n (getD (replicate 64 0) n 0) ≡ true
+  unfolding choiceRight
+  no-choice n = rw (zero-at 64 n)
+
   shaped : Shaped d new
   unfolding newState
-  shaped = search zeros
+  shaped = search (zeros, no-choice)
 
   new-invariant : Invariant [] (record { document = d; state = new })
   unfolding newState number oneIfAwake if_then_else_
   new-invariant = record {
-    unbroken = not-broken _ (record { tables = obeys; document-ends = document-ends d (l .columns); state-ends = state-ends d new shaped; states = right-states d new right });
+    unbroken = not-broken _ (record { tables = obeys; document-ends = document-ends d (l .columns); state-ends = state-ends d new shaped; states = right-states d new right; choices = choices-right d new shaped });
     shaped = shaped;
     tallied = record {
       nodes = λ i h. record { balances = rw (zero-at 64 i); counts = zero-at 64 i };

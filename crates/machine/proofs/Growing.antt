@@ -11,8 +11,9 @@ use lib.Seq.{take-all, take-suc, take-append-le}
 use borrow.Author.Tests.{eqb-false, ltb-true, ltb-false}
 use Rattle.base.specs.Tests.{if_then_else_, _=?_, _<?_, by-test, both-pass}
 use Rattle.machine.specs.Log.{Log, line, met, logged}
-use Rattle.machine.specs.Events.{Run, nodeChanged, nodeTo, anchorChanged, anchorTo, setProperty}
+use Rattle.machine.specs.Events.{Run, nodeChanged, nodeTo, anchorChanged, anchorTo, setProperty, choiceMade}
 use Rattle.machine.specs.Tick.{keyed}
+use Rattle.machine.specs.Owners.{OwnerTest}
 use Rattle.machine.specs.Chain.{firingLogged, limitMet, goesOn, lineTaken, linesTaken, chained}
 use Rattle.machine.specs.Sound.{Sound}
 use Rattle.machine.specs.declared.Document.{Document}
@@ -61,12 +62,13 @@ module _ (d : Document) (x : Log) where
       (λ _. record { new = a .new; lines = a .lines; room = a .room; fits = a .fits })
 
   pub adds : Primitives d AddedRun
-  unfolding nodeTo nodeChanged anchorTo anchorChanged setProperty keyed firingLogged limitMet
+  unfolding nodeTo nodeChanged anchorTo anchorChanged setProperty choiceMade keyed firingLogged limitMet
   adds = record {
     moves = record {
       node = λ aborting n new r _ p. chosen AddedRun _ (λ _. p) (λ _. line-added _ _ p);
       anchor = λ aborting a new r _ p. chosen AddedRun _ (λ _. p) (λ _. line-added _ _ p);
       clock = λ n clock r _ p. p;
+      choice = λ n c r _ p. p;
     };
     property = λ i value r _ p. line-added _ _ (line-added _ _ p);
     lines = record { key = λ code r p. line-added _ _ p; firing = λ l r _ p. line-added _ _ p; limit = λ r p. record { new = p .new; lines = p .lines; room = p .room; fits = p .fits } };
@@ -74,13 +76,13 @@ module _ (d : Document) (x : Log) where
 
 -- ---- what holds after each line that is taken holds after the chain, of all its lines, if nothing stops it
 
-module _ (d : Document) (sound : Sound d) (P : List Line → Run → Type 0) (turn : (ls : List Line) (x : Line) (r : Run) → P ls r → P (ls ++ (x ∷ [])) (lineTaken d x r)) (h : List Line) where
+module _ (admits : OwnerTest) (d : Document) (sound : Sound d) (P : List Line → Run → Type 0) (turn : (ls : List Line) (x : Line) (r : Run) → P ls r → P (ls ++ (x ∷ [])) (lineTaken admits d x r)) (h : List Line) where
   abbrev IfDone : Run → Type 0
   IfDone r = r .log .stop ≡ 0 → P (h ++ r .log .lines) r
 
   -- from line k; there are never more lines than there is room for
   lines-turns : (most k : ℕ) (r : Run) → length (r .log .lines) ≤ r .log .room → r .log .room ≤ k + most
-      → P (h ++ take k (r .log .lines)) r → IfDone (linesTaken d most k r)
+      → P (h ++ take k (r .log .lines)) r → IfDone (linesTaken admits d most k r)
   unfolding linesTaken goesOn
   lines-turns zero k r fits far p = λ _. rw (take-all k (r .log .lines) (omega arith)) at p
   lines-turns (suc most) k r fits far p =
@@ -88,12 +90,12 @@ module _ (d : Document) (sound : Sound d) (P : List Line → Run → Type 0) (tu
       (λ e.
       let x = getD (r .log .lines) k (line 0 0 0) in
       let i = ltb-true k (length (r .log .lines)) (both-pass (goesOn r) _ e .1) in
-      let g = line-keeps d (AddedRun d (r .log)) sound (actions d _ sound (steps d _ (adds d (r .log)))) x r (none-added (r .log) fits) in
-      let same : take (k + 1) (lineTaken d x r .log .lines) ≡ take k (r .log .lines) ++ (x ∷ [])
+      let g = line-keeps d (AddedRun d (r .log)) sound (actions d _ sound (steps d _ (adds d (r .log)))) admits x r (none-added (r .log) fits) in
+      let same : take (k + 1) (lineTaken admits d x r .log .lines) ≡ take k (r .log .lines) ++ (x ∷ [])
       = rw (g .lines, take-append-le (k + 1) (r .log .lines) (g .new) (omega arith), add-one) (take-suc (r .log .lines) k (line 0 0 0) i) in
       lines-turns most (k + 1) _ (g .fits) (omega (arith, g .room)) (rw (same, ← append-assoc) (turn _ x r p)))
       (λ e f. rw (take-all k (r .log .lines) (ltb-false k (length (r .log .lines)) (rw f at e))) at p)
 
-  pub chained-turns : (r : Run) → length (r .log .lines) ≤ r .log .room → P h r → IfDone (chained d r)
+  pub chained-turns : (r : Run) → length (r .log .lines) ≤ r .log .room → P h r → IfDone (chained admits d r)
   unfolding chained
   chained-turns r fits p = lines-turns (r .log .room) 0 r fits (omega arith) (rw append-nil p)

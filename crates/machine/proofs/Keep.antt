@@ -9,16 +9,19 @@ use borrow.Author.Tests.{eqb-true, eqb-false, ltb-true}
 use Rattle.base.specs.Tests.{if_then_else_, _=?_, both-pass}
 use Rattle.base.specs.Loops.{ascending, ascending-turns, descending-turns}
 use Rattle.machine.specs.Terms.{paused, toStart, toStop, toAbort, toSet}
-use Rattle.machine.specs.Tables.{isMedia, anchorAt}
-use Rattle.machine.specs.Events.{Run, nodeState, anchorState, nextState, withState, nodeTo, anchorTo, setProperty, follows, anchorMoved, anchorsMoved, mediaTo, mediaMoved, portStarted, contextStarted, switchStarted, startedOne, started, movedBelow, allMoved, childrenState, settledOne, settled, performed, acted}
+use Rattle.machine.specs.Tables.{isMedia, anchorAt, bindAt}
+use Rattle.machine.specs.Events.{Run, nodeState, anchorState, nextState, withState, nodeTo, anchorTo, setProperty, follows, anchorMoved, anchorsMoved, mediaTo, mediaMoved, foundBind, choiceMade, portStarted, contextStarted, switchStarted, startedOne, started, movedBelow, allMoved, childrenState, settledOne, settled, performed, acted}
 use Rattle.machine.specs.Tick.{withClock, anchorsPassed, passed, tickedOne, ticked, keyed}
+use Rattle.machine.specs.Owners.{OwnerTest}
 use Rattle.machine.specs.Chain.{firingLogged, actionRun, actionsRun, limitMet, fired, linkTried, lineTaken, linesTaken, chained}
+use Rattle.machine.specs.Broken.{choiceRight}
 use Rattle.machine.specs.Sound.{Applicable, Sound}
 use Rattle.machine.specs.declared.Document.{Document}
 use Rattle.machine.specs.declared.Nodes.{Nodes}
 use Rattle.machine.specs.declared.ActionRecord.{ActionRecord}
 use Rattle.machine.specs.declared.Line.{Line}
 use mathlib.Core.List.{List}
+use Rattle.machine.proofs.SoundTables.{bind-own}
 
 -- a choice, with what its test tells
 pub chosen : {A : Type 0} (P : A → Type 0) (b : Bool) {x y : A} → (b ≡ true → P x) → (b ≡ false → P y) → P (if b then x else y)
@@ -44,11 +47,12 @@ module _ (d : Document) (P : Run → Type 0) where
     pub firing : (l : ℕ) (r : Run) → r .firings < d .limit → P r → P (firingLogged l r)
     pub limit : (r : Run) → P r → P (limitMet r)
 
-  -- the smallest moves: those of a node, an anchor, a clock
+  -- the smallest moves: those of a node, an anchor, a clock, a choice
   pub record Moves : Type 0 where
     pub node : (aborting : Bool) (n new : ℕ) (r : Run) → n < d .nodes .count → P r → P (nodeTo aborting n new r)
     pub anchor : (aborting : Bool) (a new : ℕ) (r : Run) → a < d .anchors .count → P r → P (anchorTo aborting a new r)
     pub clock : (n clock : ℕ) (r : Run) → n < d .nodes .count → P r → P (withState (withClock n clock (r .state)) (r .log) r)
+    pub choice : (n c : ℕ) (r : Run) → choiceRight (d .nodes) n c ≡ true → P r → P (choiceMade n c r)
 
   -- the smallest steps
   pub record Primitives : Type 0 where
@@ -61,6 +65,7 @@ module _ (d : Document) (P : Run → Type 0) where
     pub media : (action n : ℕ) (r : Run) → toStart ≤ action → n < d .nodes .count → isMedia (d .nodes) n ≡ true → P r → P (mediaMoved (d .anchors) action n r)
     pub tick : (n : ℕ) (r : Run) → n < d .nodes .count → P r → P (tickedOne d n r)
     pub composite : (aborting : Bool) (c new : ℕ) (r : Run) → c < d .nodes .count → isMedia (d .nodes) c ≡ false → new ≤ paused → P r → P (nodeTo aborting c new r)
+    pub choice : (n c : ℕ) (r : Run) → choiceRight (d .nodes) n c ≡ true → P r → P (choiceMade n c r)
 
   -- the steps of a node, each whole
   pub record Steps : Type 0 where
@@ -117,6 +122,7 @@ module _ (d : Document) (P : Run → Type 0) where
       media = λ action n r _ h _ p. media-moves-keep action n r h p;
       tick = tick-keeps;
       composite = λ aborting c new r h _ _ p. k .node aborting c new r h p;
+      choice = k .choice;
     }
 
   pub steps : Primitives → Steps
@@ -124,14 +130,21 @@ module _ (d : Document) (P : Run → Type 0) where
 
   module _ (sound : Sound d) (k : NodeMoves) where
     started-keeps : (levels n : ℕ) (r : Run) → n < d .nodes .count → P r → P (started d levels n r)
-    unfolding started startedOne contextStarted portStarted switchStarted
+    unfolding started startedOne contextStarted portStarted switchStarted choiceRight
     started-keeps zero n r h p = p
     started-keeps (suc levels) n r h p =
         chosen P _ (λ e. k .media toStart n r (lit≤ tt) h e p)
         (λ _. chosen P _ (λ _. p)
         (λ _. chosen P _
         (λ _. each _ (λ q r l p. chosen P _ (λ _. started-keeps levels _ r (sound .port-child q l) p) (λ _. p)) r p)
-        (λ _. chosen P _ (λ l. started-keeps levels _ r (sound .bind-child _ (ltb-true _ _ l)) p) (λ _. p))))
+        (λ _. chosen P _
+        (λ l.
+        let values = r .state .properties .values in
+        let b = foundBind (d .binds) (d .rules) values n in
+        let given = ltb-true b (d .binds .count) l in
+        let right : choiceRight (d .nodes) n (bindAt (d .binds) b .child) ≡ true = rw (bind-own d values n b refl given) at (sound .bind-choice b given) in
+        started-keeps levels _ _ (sound .bind-child b given) (k .choice n _ r right p))
+        (λ _. k .choice n 0 r refl p))))
 
     -- an action, where it keeps the property if it sets one
     pub moves-keep : (a : ActionRecord) (r : Run) → Applicable d a → (a .action ≡ toSet → P (setProperty (a .target) (a .value) r)) → P r → P (performed d a r)
@@ -176,19 +189,19 @@ module _ (d : Document) (P : Run → Type 0) where
         _ (k .lines .firing l r (ltb-true _ _ b) p))
         (λ _. k .lines .limit r p)
 
-    pub link-keeps : (x : Line) (l : ℕ) (r : Run) → l < d .links .count → P r → P (linkTried d x l r)
+    pub link-keeps : (admits : OwnerTest) (x : Line) (l : ℕ) (r : Run) → l < d .links .count → P r → P (linkTried admits d x l r)
     unfolding linkTried
-    link-keeps x l r h p = chosen P _ (λ _. fired-keeps l r h p) (λ _. p)
+    link-keeps admits x l r h p = chosen P _ (λ _. fired-keeps l r h p) (λ _. p)
 
-    pub line-keeps : (x : Line) (r : Run) → P r → P (lineTaken d x r)
+    pub line-keeps : (admits : OwnerTest) (x : Line) (r : Run) → P r → P (lineTaken admits d x r)
     unfolding lineTaken
-    line-keeps x = each _ (link-keeps x)
+    line-keeps admits x = each _ (link-keeps admits x)
 
-    lines-keep : (most i : ℕ) (r : Run) → P r → P (linesTaken d most i r)
+    lines-keep : (admits : OwnerTest) (most i : ℕ) (r : Run) → P r → P (linesTaken admits d most i r)
     unfolding linesTaken
-    lines-keep zero i r p = p
-    lines-keep (suc most) i r p = chosen P _ (λ _. lines-keep most _ _ (line-keeps _ r p)) (λ _. p)
+    lines-keep admits zero i r p = p
+    lines-keep admits (suc most) i r p = chosen P _ (λ _. lines-keep admits most _ _ (line-keeps admits _ r p)) (λ _. p)
 
-    pub chained-keeps : (r : Run) → P r → P (chained d r)
+    pub chained-keeps : (admits : OwnerTest) (r : Run) → P r → P (chained admits d r)
     unfolding chained
-    chained-keeps r p = lines-keep _ 0 r p
+    chained-keeps admits r p = lines-keep admits _ 0 r p

@@ -10,7 +10,7 @@ use borrow.Author.Tests.{eqb-true, eq-eqb, ne-eqb}
 use Rattle.base.specs.Tests.{if_then_else_, _=?_, by-test, not-true, not-false}
 use Rattle.machine.specs.Terms.{sleeping, occurring, toStart, toStop, ofProperty, starts, noId}
 use Rattle.machine.specs.Log.{line, logged}
-use Rattle.machine.specs.Events.{Run, nodeClock, anchorState, awake, withState, nodeChanged, nodeTo, anchorChanged, anchorTo, setProperty, beginsAt, endsAt, isAwake, follows, mediaMoved}
+use Rattle.machine.specs.Events.{Run, nodeClock, anchorState, awake, withState, nodeChanged, nodeTo, anchorChanged, anchorTo, setProperty, choiceMade, beginsAt, endsAt, isAwake, follows, mediaMoved}
 use Rattle.machine.specs.Tick.{anchorsPassed, passed, tickedOne, keyed}
 use Rattle.machine.specs.Chain.{firingLogged, limitMet}
 use Rattle.machine.specs.Demand3.{Awake}
@@ -142,7 +142,7 @@ module _ (h : List Line) (d : Document) (m : ℕ) where
         (λ _. k .1)
 
     pub latests : Steps d LatestRun
-    unfolding setProperty keyed firingLogged limitMet isStartOf
+    unfolding setProperty choiceMade keyed firingLogged limitMet isStartOf
     latests =
         let t = times d sound in
         let same = other-kept Latest in
@@ -151,6 +151,7 @@ module _ (h : List Line) (d : Document) (m : ℕ) where
             media = λ action n r one i type k. let u = t .moves .media action n r one i type (k .0) in (u, media-latest action n r u (k .1));
             tick = λ n r i k. (t .moves .tick n r i (k .0), tick-latest n r i k);
             composite = λ aborting c new r i type low k. (t .moves .composite aborting c new r i type low (k .0), node-kept Latest aborting c new r (k .1));
+            choice = λ n c r right k. (t .moves .choice n c r right (k .0), record { room = k .1 .room; holds = k .1 .holds });
           };
           property = λ j value r i k. (
             t .property j value r i (k .0),

@@ -1,5 +1,6 @@
 pub mod SoundTables
 pub mod Keep
+pub mod Paths
 pub mod Columns
 pub mod Shape
 pub mod Growing
@@ -19,3 +20,4 @@ pub mod FirstSession
 pub mod Demand
 pub mod Latest
 pub mod Counting
+pub mod Outside

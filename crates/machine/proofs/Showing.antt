@@ -11,7 +11,8 @@ use Rattle.base.specs.Tests.{if_then_else_, _<?_, _≤?_, by-test, both-pass, p
 use Rattle.base.specs.Loops.{every-each, none-passing, One, one-passing}
 use Rattle.machine.specs.Terms.{noId}
 use Rattle.machine.specs.Tables.{anchorAt, linkAt, actionCount}
-use Rattle.machine.specs.Counts.{isAnchorOf, setsIn, timesSet, isCountLinkOf, isCountLinkIn, apart, apartFromEarlier, disjoint, hasOneLink, eachHasOneLink, setsOnce, eachSetsOnce, unguarded, eachUnguarded, setsNoOther, noOther, firstFailing, conditions, failing, showsCounts, checkCounts, isStartOf, lastStarted}
+use Rattle.machine.specs.Counts.{isAnchorOf, setsIn, timesSet, isCountLinkOf, isCountLinkIn, apart, apartFromEarlier, disjoint, hasOneLink, eachHasOneLink, setsOnce, eachSetsOnce, unguarded, eachUnguarded, setsNoOther, noOther, ownerOutsideSwitches, eachOutsideSwitches, firstFailing, conditions, failing, showsCounts, checkCounts, isStartOf, lastStarted}
+use Rattle.machine.specs.Owners.{pathChosen}
 use Rattle.machine.specs.Answers.{Answer, accepted}
 use Rattle.machine.specs.Demand3.{Inside}
 use Rattle.machine.specs.declared.Anchors.{Anchors}
@@ -19,6 +20,7 @@ use Rattle.machine.specs.declared.Document.{Document}
 use Rattle.machine.specs.declared.Session.{Session}
 use Rattle.machine.specs.declared.Line.{Line}
 use Rattle.machine.proofs.Keep.{chosen}
+use Rattle.machine.proofs.Paths.{outside-chosen}
 
 module _ (anchors : Anchors) (m a : ℕ) where
   pub anchor-given : isAnchorOf anchors m a ≡ true → (a < anchors .count) × (anchorAt anchors a .media ≡ m)
@@ -38,6 +40,7 @@ pub record Shows (d : Document) (m p : ℕ) : Type 0 where
   pub link : (a : ℕ) → isAnchorOf (d .anchors) m a ≡ true → One (isCountLinkOf d p a) (d .links .count)
   pub action : (l : ℕ) → l < d .links .count → isCountLinkIn d m p l ≡ true → One (setsIn d p l) (actionCount (d .links) l)
   pub unguarded : (l : ℕ) → l < d .links .count → isCountLinkIn d m p l ≡ true → linkAt (d .links) l .guard ≡ noId
+  pub chosen : (l : ℕ) → l < d .links .count → isCountLinkIn d m p l ≡ true → (choices : List ℕ) → pathChosen (d .nodes) choices (linkAt (d .links) l .owner) ≡ true
   pub other : (l : ℕ) → l < d .links .count → isCountLinkIn d m p l ≡ false → (j : ℕ) → j < actionCount (d .links) l → setsIn d p l j ≡ false
 
 first-holds : (n : ℕ) (holds : Bool) (others : List Bool) → 0 < n → firstFailing n (holds ∷ others) ≡ 0 → (holds ≡ true) × (firstFailing (n + 1) others ≡ 0)
@@ -54,7 +57,7 @@ module _ (d : Document) (m : ℕ) where
       (one-passes (anchorAt (d .anchors) a .end ≤? anchorAt (d .anchors) b .begin) _ (rw u at (every-each _ b (rw v at (every-each _ _ e b (anchor-given _ m b v .0))) a l)))
 
   pub shows : (p : ℕ) → showsCounts d m p ≡ true → Shows d m p
-  unfolding showsCounts failing conditions eachHasOneLink hasOneLink eachSetsOnce setsOnce eachUnguarded unguarded noOther setsNoOther timesSet
+  unfolding showsCounts failing conditions eachHasOneLink hasOneLink eachSetsOnce setsOnce eachUnguarded unguarded noOther setsNoOther timesSet eachOutsideSwitches ownerOutsideSwitches
   shows p e =
       let first = first-holds 1 _ _ (omega arith) (eqb-true _ 0 e) in
       let second = first-holds 2 _ _ (omega arith) (first .1) in
@@ -62,6 +65,7 @@ module _ (d : Document) (m : ℕ) where
       let fourth = first-holds 4 _ _ (omega arith) (third .1) in
       let fifth = first-holds 5 _ _ (omega arith) (fourth .1) in
       let sixth = first-holds 6 _ _ (omega arith) (fifth .1) in
+      let seventh = first-holds 7 _ _ (omega arith) (sixth .1) in
       record {
         single = λ a b clock u v i j.
             by-test (a <? b)
@@ -72,6 +76,7 @@ module _ (d : Document) (m : ℕ) where
         link = λ a u. one-passing _ _ (eqb-true _ 1 (rw u at (every-each _ _ (third .0) a (anchor-given _ m a u .0))));
         action = λ l h u. one-passing _ _ (eqb-true _ 1 (rw u at (every-each _ _ (fourth .0) l h)));
         unguarded = λ l h u. eqb-true _ _ (rw u at (every-each _ _ (fifth .0) l h));
+        chosen = λ l h u. outside-chosen _ _ (rw u at (every-each _ _ (seventh .0) l h));
         other = λ l h u. ⊎-elim (λ q. none-passing _ _ (eqb-true _ 0 q)) (λ q. absurd (true≢false (sym q ∙ u))) (one-passes _ _ (every-each _ _ (sixth .0) l h));
       }
 

@@ -1,7 +1,7 @@
 -- What is known of tables that obey the load rules. Each rule gives its tests, each record of facts is put together of these.
 use Prim.Native.Nat.{ℕ, zero, suc, _<_, _≤_}
 use native.Mathlib.Omega.{arith}
-use mathlib.Core.Bool.{true, false, _&&_, _||_, true≢false}
+use mathlib.Core.Bool.{true, false, _&&_, _||_, or-true, true≢false}
 use mathlib.Core.List.{List}
 use mathlib.Core.Logic.{⊎-elim}
 use mathlib.Core.Path.{_≡_, refl, sym, _∙_}
@@ -15,7 +15,7 @@ use Rattle.machine.specs.Tables.{typeOf, parentOf, durationOf, isMedia, 
 use Rattle.machine.specs.Records.{nodeFieldsRight, parentRight, nodeFault, anchorFault, propertyFault, simpleRuleFault, compositeRuleFault, ruleFault, bindFault, portFault, linkFault, actionRight, targetGiven, actionFault, subjectGiven, transitionRight, isDefault, isPort}
 use Rattle.base.specs.Loops.{some}
 use Rattle.machine.specs.Events.{bindHolds, foundBind}
-use Rattle.machine.specs.Broken.{nodeObeys, anchorObeys, propertyObeys, ruleObeys, bindObeys, portObeys, actionObeys, linkObeys, tablesObey, ruleUnusedZero}
+use Rattle.machine.specs.Broken.{nodeObeys, anchorObeys, propertyObeys, ruleObeys, bindObeys, portObeys, actionObeys, linkObeys, tablesObey, ruleUnusedZero, choiceRight}
 use Rattle.machine.specs.Sound.{SoundNodes, SoundRules, Applicable, Sound}
 use Rattle.machine.specs.declared.Nodes.{Nodes}
 use Rattle.machine.specs.declared.Document.{Document}
@@ -266,13 +266,20 @@ module _ (d : Document) (o : Obeyed d) where
     later : bindAt (d .binds) b .switch < bindAt (d .binds) b .child
     child : bindAt (d .binds) b .child < d .nodes .count
     rule : (bindAt (d .binds) b .rule ≡ noId → ⊥) → bindAt (d .binds) b .rule < d .rules .count
+    choice : choiceRight (d .nodes) (bindAt (d .binds) b .switch) (bindAt (d .binds) b .child) ≡ true
 
   bind-facts : (b : ℕ) → b < d .binds .count → BindFacts b
+  unfolding choiceRight
   bind-facts b h =
       let p = both-pass _ _ (t .binds b h .ids) in
       let q = both-pass _ _ (p .0) in
       let c = ltb-true _ _ (q .1) in
-      record { later = child-later sound-nodes c (given-type (d .nodes) switch _ (q .0) .0) (eqb-true _ _ (t .binds b h .child)); child = c; rule = or-none _ _ (p .1) }
+      record {
+        later = child-later sound-nodes c (given-type (d .nodes) switch _ (q .0) .0) (eqb-true _ _ (t .binds b h .child));
+        child = c;
+        rule = or-none _ _ (p .1);
+        choice = rw (q .0, q .1, t .binds b h .child) (or-true (bindAt (d .binds) b .child =? 0));
+      }
 
   port-facts : (p : ℕ) → p < d .ports .count → (portAt (d .ports) p .context < portAt (d .ports) p .child) × (portAt (d .ports) p .child < d .nodes .count)
   port-facts p h =
@@ -284,6 +291,11 @@ module _ (d : Document) (o : Obeyed d) where
   link-guard l h =
       let r = linkAt (d .links) l in
       or-none _ _ (both-pass (given (d .nodes) context (r .owner) && subjectGiven d (r .class) (r .subject)) _ (t .links l h .ids) .1)
+
+  link-owner : (l : ℕ) → l < d .links .count → linkAt (d .links) l .owner < d .nodes .count
+  link-owner l h =
+      let r = linkAt (d .links) l in
+      given-type (d .nodes) context _ (both-pass _ _ (both-pass (given (d .nodes) context (r .owner) && subjectGiven d (r .class) (r .subject)) _ (t .links l h .ids) .0) .0) .0
 
 -- the bind that a switch finds is one of its own
 pub bind-own : (d : Document) (values : List ℤ) (n b : ℕ) → b ≡ foundBind (d .binds) (d .rules) values n → b < d .binds .count → bindAt (d .binds) b .switch ≡ n
@@ -330,10 +342,12 @@ sound d e =
       bind-later = λ b h. bind-facts d o b h .later;
       bind-child = λ b h. bind-facts d o b h .child;
       bind-rule = λ b h. bind-facts d o b h .rule;
+      bind-choice = λ b h. bind-facts d o b h .choice;
       ports = few (d .ports .count) 64 (λ i h. t .ports i h .few);
       port-later = λ p h. port-facts d o p h .0;
       port-child = λ p h. port-facts d o p h .1;
       links = few (d .links .count) 64 (λ i h. t .links i h .few);
+      link-owner = link-owner d o;
       link-guard = link-guard d o;
       actions = λ l h. few (actionCount (d .links) l) 8 (λ j k. t .actions l j h k .few);
       link-action = λ l j h k. applicable d _ (t .actions l j h k .fields) (both-pass (1 ≤? d .links .count) _ (t .actions l j h k .ids) .1);

@@ -12,7 +12,7 @@ use borrow.Author.Tests.{eqb-true, eqb-false, eq-eqb, ne-eqb}
 use Rattle.base.specs.Tests.{if_then_else_, _=?_, by-test}
 use Rattle.machine.specs.Terms.{sleeping, occurring, starts, stops, aborts, ofNode, ofAnchor, ofProperty, noTransition}
 use Rattle.machine.specs.Log.{line}
-use Rattle.machine.specs.Events.{Run, nodeState, nodeCount, anchorState, anchorCount, propertyCount, transition, counted, withNode, withAnchor, withValue, nodeChanged, nodeTo, anchorChanged, anchorTo, setProperty}
+use Rattle.machine.specs.Events.{Run, nodeState, nodeCount, anchorState, anchorCount, propertyCount, transition, counted, withNode, withAnchor, withValue, nodeChanged, nodeTo, anchorChanged, anchorTo, setProperty, choiceMade}
 use Rattle.machine.specs.Tick.{keyed}
 use Rattle.machine.specs.Chain.{firingLogged, limitMet}
 use Rattle.machine.specs.Demand3.{number, isLine, startsOf, stopsOf, abortsOf, CountsStops}
@@ -159,7 +159,7 @@ module _ (h : List Line) (d : Document) (sound : Sound d) where
   }
 
   pub tallies : Primitives d TalliedRun
-  unfolding nodeTo nodeChanged anchorTo anchorChanged setProperty keyed firingLogged limitMet isLine if_then_else_
+  unfolding nodeTo nodeChanged anchorTo anchorChanged setProperty choiceMade keyed firingLogged limitMet isLine if_then_else_
   tallies = record {
     moves = record {
       node = λ aborting n new r k p. (
@@ -173,6 +173,7 @@ module _ (h : List Line) (d : Document) (sound : Sound d) where
             (λ e. rw e (one-more h (Tallied d (r .state)) (Tallied d _) _ (r .log) (anchor-moved aborting a new (r .state) k (p .0)) (p .1))),
       );
       clock = λ n clock r k p. (shapes d .moves .clock n clock r k (p .0), λ f. record { nodes = p .1 f .nodes; anchors = p .1 f .anchors; properties = p .1 f .properties });
+      choice = λ n c r right p. (shapes d .moves .choice n c r right (p .0), λ f. record { nodes = p .1 f .nodes; anchors = p .1 f .anchors; properties = p .1 f .properties });
     };
     property = λ i value r k p. (
       shapes d .property i value r k (p .0),

@@ -12,7 +12,7 @@ use borrow.Author.Tests.{eqb-true, eqb-false, eq-eqb, ne-eqb, lt-ltb, le-ltb, le
 use Rattle.base.specs.Tests.{if_then_else_, _=?_, _<?_, _≤?_, by-test}
 use Rattle.machine.specs.Terms.{sleeping, occurring, paused, toStart, toStop, toAbort}
 use Rattle.machine.specs.Tables.{isMedia, durationOf, anchorAt}
-use Rattle.machine.specs.Events.{Run, nodeState, nodeClock, anchorState, nextStates, nextState, withState, beginsAt, endsAt, isAwake, follows, nodeTo, setProperty, anchorsMoved, mediaTo, mediaMoved}
+use Rattle.machine.specs.Events.{Run, nodeState, nodeClock, anchorState, nextStates, nextState, withState, beginsAt, endsAt, isAwake, follows, nodeTo, setProperty, choiceMade, anchorsMoved, mediaTo, mediaMoved}
 use Rattle.machine.specs.Tick.{withClock, anchorsPassed, passed, tickedOne, keyed}
 use Rattle.machine.specs.Chain.{firingLogged, limitMet}
 use Rattle.machine.specs.Broken.{anchorStateIn}
@@ -350,7 +350,7 @@ module _ (d : Document) (sound : Sound d) where
       (λ _. p)
 
   pub times : Steps d TimedRun
-  unfolding setProperty keyed firingLogged limitMet anchorStateIn
+  unfolding setProperty choiceMade keyed firingLogged limitMet anchorStateIn
   times = record {
     moves = record {
       media = λ action n r one h type p. record {
@@ -361,6 +361,10 @@ module _ (d : Document) (sound : Sound d) where
       composite = λ aborting c new r h type low p. record {
         shaped = shape-steps .moves .composite aborting c new r h type low (p .shaped);
         timed = composite-timed aborting c new r h type low (p .shaped) (p .timed);
+      };
+      choice = λ n c r right p. record {
+        shaped = shape-steps .moves .choice n c r right (p .shaped);
+        timed = record { nodes = p .timed .nodes; anchors = p .timed .anchors };
       };
     };
     property = λ i value r h p. record {

@@ -13,8 +13,9 @@ use Rattle.base.specs.Loops.{ascending, ascending-idle, ascending-turns}
 use Rattle.machine.specs.Terms.{toSet, starts, ofAnchor, noId}
 use Rattle.machine.specs.Tables.{linkAt, actionAt, actionCount}
 use Rattle.machine.specs.Deciding.{guardHolds}
-use Rattle.machine.specs.Events.{Run, nodeChanged, nodeTo, anchorChanged, anchorTo, setProperty, performed, acted}
+use Rattle.machine.specs.Events.{Run, nodeChanged, nodeTo, anchorChanged, anchorTo, setProperty, choiceMade, performed, acted}
 use Rattle.machine.specs.Tick.{ticked}
+use Rattle.machine.specs.Owners.{ownerChosen}
 use Rattle.machine.specs.Chain.{fires, firingLogged, goesOn, actionRun, actionsRun, limitMet, fired, linkTried, lineTaken, chained}
 use Rattle.machine.specs.Counts.{isAnchorOf, setsIn, isCountLink, isCountLinkOf, isCountLinkIn, countLink, countAction, countOf, isStartOf, lastCount, valueOf}
 use Rattle.machine.specs.Sound.{Applicable, Sound}
@@ -55,11 +56,12 @@ module _ (d : Document) (sound : Sound d) (p : ℕ) where
   ValueIs v r = valueOf (r .state) p ≡ v
 
   values-kept : (v : ℤ) → NodeMoves d (ValueIs v)
-  unfolding nodeTo nodeChanged anchorTo anchorChanged
+  unfolding nodeTo nodeChanged anchorTo anchorChanged choiceMade
   values-kept v = moved d (ValueIs v) (record {
     node = λ aborting n new r _ k. chosen (ValueIs v) _ (λ _. k) (λ _. k);
     anchor = λ aborting a new r _ k. chosen (ValueIs v) _ (λ _. k) (λ _. k);
     clock = λ n clock r _ k. k;
+    choice = λ n c r _ k. k;
   })
 
   module _ (a : ActionRecord) (r : Run) (t : Applicable d a) (s : ShapedRun d r) where
@@ -147,20 +149,20 @@ module _ (d : Document) (sound : Sound d) (p : ℕ) where
           (λ c. let one = showing .action l h c in rw (on, c) (one-sets (setsIn d p l) _ _ _ _ (one .below) (one .passes) (one .only)))
           (λ c. rw (on, c) (none-sets (setsIn d p l) _ _ _ (showing .other l h c) ∙ q f))
 
-      idle-value : fires d (y .state .properties .values) x l ≡ false → Tried y
-      unfolding fires guardHolds if_then_else_
+      idle-value : fires ownerChosen d (y .state) x l ≡ false → Tried y
+      unfolding fires ownerChosen guardHolds if_then_else_
       idle-value e f =
           by-test (setsCount x l)
-          (λ c. let b = both-pass (matches x l) _ c in absurd (true≢false (sym (pass-both _ _ (b .0) (rw (showing .unguarded l h (b .1)))) ∙ e)))
+          (λ c. let b = both-pass (matches x l) _ c in absurd (true≢false (sym (pass-both _ _ (pass-both _ _ (b .0) (showing .chosen l h (b .1) (y .state .choices))) (rw (showing .unguarded l h (b .1)))) ∙ e)))
           (λ c. rw c (q f))
 
-      link-value : Tried (linkTried d x l y)
+      link-value : Tried (linkTried ownerChosen d x l y)
       unfolding linkTried goesOn fired limitMet fires
       link-value =
-          chosen Tried (goesOn y && fires d (y .state .properties .values) x l)
+          chosen Tried (goesOn y && fires ownerChosen d (y .state) x l)
           (λ e.
           let b = both-pass (goesOn y) _ e in
-          chosen Tried _ (λ _. fired-value (both-pass (matches x l) _ (b .1) .0) (eqb-true _ _ (b .0))) (λ _ f. absurd (met-stops 11 (y .log) (lit< tt) f)))
+          chosen Tried _ (λ _. fired-value (both-pass (matches x l) _ (both-pass (matches x l && ownerChosen d (y .state) (linkAt (d .links) l .owner)) _ (b .1) .0) .0) (eqb-true _ _ (b .0))) (λ _ f. absurd (met-stops 11 (y .log) (lit< tt) f)))
           (λ e f. idle-value (rw f at e) f)
 
     -- ---- the lines: p has the count of the last start among those that were taken
@@ -168,13 +170,13 @@ module _ (d : Document) (sound : Sound d) (p : ℕ) where
     abbrev HasLastCount : ℤ → List Line → Run → Type 0
     HasLastCount before ls r = r .log .stop ≡ 0 → valueOf (r .state) p ≡ lastCount d m p before ls
 
-    line-value : (before : ℤ) (ls : List Line) (x : Line) (r : Run) → ShapedRun d r → HasLastCount before ls r → HasLastCount before (ls ++ (x ∷ [])) (lineTaken d x r)
+    line-value : (before : ℤ) (ls : List Line) (x : Line) (r : Run) → ShapedRun d r → HasLastCount before ls r → HasLastCount before (ls ++ (x ∷ [])) (lineTaken ownerChosen d x r)
     unfolding lineTaken lastCount countOf countLink isStartOf ascending if_then_else_
     line-value before ls x r k q f =
         let v = lastCount d m p before ls in
         ascending-turns (λ l (y : Run). ShapedRun d y × (y .log .stop ≡ 0 → valueOf (y .state) p ≡ loopValue (setsCount x) countOfLink l v)) (d .links .count) r
         (k, q)
-        (λ l y h w. (link-keeps d _ sound shape-kept x l y h (w .0), link-value x _ l y h (w .0) (w .1)))
+        (λ l y h w. (link-keeps d _ sound shape-kept ownerChosen x l y h (w .0), link-value x _ l y h (w .0) (w .1)))
         .1 f
         ∙ rw (last-more d m noId ls x)
         (by-test (isStartOf d m x)
@@ -185,6 +187,6 @@ module _ (d : Document) (sound : Sound d) (p : ℕ) where
         (one-sets (setsCount x) countOfLink (d .links .count) v _ (one .below) (start-sets x _ e (one .passes)) (λ l h t. one .only l h (sets-start x l t .1))))
         (λ e. rw e (none-sets (setsCount x) countOfLink (d .links .count) v (λ l h. by-test (setsCount x l) (λ t. absurd (true≢false (sym (sets-start x l t .0) ∙ e))) (λ t. t)))))
 
-    pub chained-value : (before : ℤ) (h : List Line) (r : Run) → ShapedRun d r → length (r .log .lines) ≤ r .log .room → HasLastCount before h r → HasLastCount before (h ++ chained d r .log .lines) (chained d r)
+    pub chained-value : (before : ℤ) (h : List Line) (r : Run) → ShapedRun d r → length (r .log .lines) ≤ r .log .room → HasLastCount before h r → HasLastCount before (h ++ chained ownerChosen d r .log .lines) (chained ownerChosen d r)
     chained-value before h r shaped fits q f =
-        chained-turns d sound (λ ls r. ShapedRun d r × HasLastCount before ls r) (λ ls x r k. (line-keeps d _ sound shape-kept x r (k .0), line-value before ls x r (k .0) (k .1))) h r fits (shaped, q) f .1 f
+        chained-turns ownerChosen d sound (λ ls r. ShapedRun d r × HasLastCount before ls r) (λ ls x r k. (line-keeps d _ sound shape-kept ownerChosen x r (k .0), line-value before ls x r (k .0) (k .1))) h r fits (shaped, q) f .1 f

@@ -9,7 +9,7 @@ use Rattle.base.specs.Tests.{if_then_else_, _=?_, _<?_, by-test, both-pass, pas
 use Rattle.base.specs.Loops.{every, every-each, each-every}
 use Rattle.machine.specs.Tables.{isMedia, durationOf}
 use Rattle.machine.specs.Events.{nodeState, nodeClock, awake, childrenState}
-use Rattle.machine.specs.Broken.{tablesObey, documentEndsZero, stateEndsZero, compositeRight, clockRight, nodeRight, anchorRight, statesRight, broken}
+use Rattle.machine.specs.Broken.{tablesObey, documentEndsZero, stateEndsZero, compositeRight, clockRight, nodeRight, anchorRight, statesRight, choicesRight, broken}
 use Rattle.machine.specs.Demand3.{Awake}
 use Rattle.machine.specs.Sound.{Sound}
 use Rattle.machine.specs.declared.Document.{Document}
@@ -93,6 +93,7 @@ pub record WholeTests (s : Session) : Type 0 where
   pub document-ends : documentEndsZero (s .document) ≡ true
   pub state-ends : stateEndsZero (s .document) (s .state) ≡ true
   pub states : statesRight (s .document) (s .state) ≡ true
+  pub choices : choicesRight (s .document .nodes) (s .state .choices) ≡ true
 
 pub whole : (s : Session) → broken s ≡ false → WholeTests s
 unfolding broken
@@ -100,11 +101,12 @@ whole s e =
     let a = both-pass _ _ (not-false _ e) in
     let b = both-pass _ _ (a .0) in
     let c = both-pass _ _ (b .0) in
-    record { tables = c .0; document-ends = c .1; state-ends = b .1; states = a .1 }
+    let f = both-pass _ _ (c .0) in
+    record { tables = f .0; document-ends = f .1; state-ends = c .1; states = b .1; choices = a .1 }
 
 pub not-broken : (s : Session) → WholeTests s → broken s ≡ false
 unfolding broken
-not-broken s t = rw (t .tables, t .document-ends, t .state-ends, t .states)
+not-broken s t = rw (t .tables, t .document-ends, t .state-ends, t .states, t .choices)
 
 -- so its tables are sound
 pub unbroken-sound : (s : Session) → broken s ≡ false → Sound (s .document)

@@ -17,7 +17,7 @@ use Rattle.machine.specs.declared.CallAnswer.{CallAnswer}
 use Rattle.machine.specs.declared.ReadAnswer
 use Rattle.machine.specs.declared.ReadAnswer.{ReadAnswer}
 use Rattle.machine.specs.declared.Condition.{Condition}
-use Rattle.machine.specs.declared.Condition.the-variants.{HasAnchor, AnchorsDisjoint, EachHasOneLink, EachSetsOnce, EachUnguarded, NoOtherAction}
+use Rattle.machine.specs.declared.Condition.the-variants.{HasAnchor, AnchorsDisjoint, EachHasOneLink, EachSetsOnce, EachUnguarded, NoOtherAction, EachOutsideSwitches}
 use Rattle.machine.specs.declared.CountsAnswer
 use Rattle.machine.specs.declared.CountsAnswer.{CountsAnswer}
 use Rattle.machine.specs.declared.CountAnswer
@@ -92,6 +92,7 @@ conditionNumber EachHasOneLink = 3
 conditionNumber EachSetsOnce = 4
 conditionNumber EachUnguarded = 5
 conditionNumber NoOtherAction = 6
+conditionNumber EachOutsideSwitches = 7
 
 -- no condition has the number 0, which stands for none
 pub condition-numbered : (c : Condition) → conditionNumber c =? 0 ≡ false
@@ -101,6 +102,7 @@ condition-numbered EachHasOneLink = refl
 condition-numbered EachSetsOnce = refl
 condition-numbered EachUnguarded = refl
 condition-numbered NoOtherAction = refl
+condition-numbered EachOutsideSwitches = refl
 
 -- "the first condition that fails, or that the document shows the counts": the condition's number, or 0
 abbrev pub countsAnswer : CountsAnswer → Answer

@@ -3,13 +3,14 @@ use Prim.Native.Nat.{ℕ}
 use mathlib.Core.Bool.{Bool, true, not, _&&_, _||_}
 use mathlib.Core.List.{List, [], _∷_}
 use lib.IntN.{pos}
-use lib.ListN.{drop}
+use lib.ListN.{getD, drop}
 use Rattle.base.specs.Tests.{if_then_else_, _=?_, _<?_, _≤?_, equalInts}
 use Rattle.base.specs.Loops.{every}
-use Rattle.machine.specs.Terms.{sleeping, paused, simpleRule, compositeRule}
-use Rattle.machine.specs.Tables.{isMedia, durationOf, nodeAt, anchorAt, ruleAt, bindAt, portAt, linkAt, actionAt, actionCount, Column, numbers, integers, Table, nodeTable, anchorTable, ruleTable, bindTable, portTable, linkTable, actionTables, nodeEventTable, anchorEventTable, propertyEventTable}
+use Rattle.machine.specs.Terms.{switch, sleeping, paused, simpleRule, compositeRule}
+use Rattle.machine.specs.Tables.{parentOf, isMedia, given, durationOf, nodeAt, anchorAt, ruleAt, bindAt, portAt, linkAt, actionAt, actionCount, Column, numbers, integers, Table, nodeTable, anchorTable, ruleTable, bindTable, portTable, linkTable, actionTables, nodeEventTable, anchorEventTable, propertyEventTable}
 use Rattle.machine.specs.Records.{nodeFault, anchorFault, propertyFault, ruleFault, bindFault, portFault, linkFault, actionFault}
 use Rattle.machine.specs.Events.{nodeState, nodeClock, anchorState, awake, childrenState}
+use Rattle.machine.specs.declared.Nodes.{Nodes}
 use Rattle.machine.specs.declared.Document.{Document}
 use Rattle.machine.specs.declared.RuleRecord.{RuleRecord}
 use Rattle.machine.specs.declared.State.{State}
@@ -120,6 +121,16 @@ anchorRight d s a = anchorState s a =? anchorStateIn d s a
 unfoldable pub statesRight : Document → State → Bool
 statesRight d s = every (nodeRight d s) (d .nodes .count) && every (anchorRight d s) (d .anchors .count)
 
+-- ---- Req 01: "a choice that is no child of its switch, or is held for a node that is no switch, is a broken session (13)"
+
+-- of node n, the choice c; 0 is none
+unfoldable pub choiceRight : Nodes → ℕ → ℕ → Bool
+choiceRight nodes n c = c =? 0 || given nodes switch n && c <? nodes .count && parentOf nodes c =? n
+
+-- of all places: a node that is not given is no switch
+unfoldable pub choicesRight : Nodes → List ℕ → Bool
+choicesRight nodes choices = every (λ n. choiceRight nodes n (getD choices n 0)) 64
+
 -- ---- all of it
 
 unfoldable pub broken : Session → Bool
@@ -127,4 +138,5 @@ broken s =
     not (tablesObey (s .document)
     && documentEndsZero (s .document)
     && stateEndsZero (s .document) (s .state)
-    && statesRight (s .document) (s .state))
+    && statesRight (s .document) (s .state)
+    && choicesRight (s .document .nodes) (s .state .choices))

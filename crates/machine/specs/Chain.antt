@@ -1,8 +1,6 @@
 -- "The chain of links": "The log is also the queue."
 use Prim.Native.Nat.{ℕ, zero, suc, _+_}
 use mathlib.Core.Bool.{Bool, _&&_}
-use mathlib.Core.List.{List}
-use lib.IntN.{ℤ}
 use lib.ListN.{length, getD}
 use Rattle.base.specs.Tests.{if_then_else_, _=?_, _<?_}
 use Rattle.base.specs.Loops.{ascending}
@@ -11,14 +9,18 @@ use Rattle.machine.specs.Tables.{linkAt, actionAt, actionCount}
 use Rattle.machine.specs.Deciding.{guardHolds}
 use Rattle.machine.specs.Log.{line, met, logged}
 use Rattle.machine.specs.Events.{Run, withState, acted}
+use Rattle.machine.specs.Owners.{OwnerTest}
 use Rattle.machine.specs.declared.Document.{Document}
+use Rattle.machine.specs.declared.State.{State}
 use Rattle.machine.specs.declared.Line.{Line}
 
--- "A link whose class, subject and transition equal the line's, and whose guard holds on the values of that moment, fires"
-unfoldable pub fires : Document → List ℤ → Line → ℕ → Bool
-fires d values x l =
+-- "A link whose class, subject and transition equal the line's, and whose guard holds on the values of that moment, fires"; Req 01: "The
+-- machine of 01 is read with this condition added to firing", on the choices of that moment
+unfoldable pub fires : OwnerTest → Document → State → Line → ℕ → Bool
+fires admits d s x l =
     let link = linkAt (d .links) l in
-    link .class =? x .class && link .subject =? x .id && link .transition =? x .transition && guardHolds (d .rules) values (link .guard)
+    link .class =? x .class && link .subject =? x .id && link .transition =? x .transition
+    && admits d s (link .owner) && guardHolds (d .rules) (s .properties .values) (link .guard)
 
 -- "a line of class 5, link, 0 is logged"; "Firings are counted"
 unfoldable pub firingLogged : ℕ → Run → Run
@@ -43,21 +45,21 @@ limitMet r = withState (r .state) (met 11 (r .log)) r
 unfoldable pub fired : Document → ℕ → Run → Run
 fired d l r = if r .firings <? d .limit then actionsRun d l (firingLogged l r) else limitMet r
 
-unfoldable pub linkTried : Document → Line → ℕ → Run → Run
-linkTried d x l r = if goesOn r && fires d (r .state .properties .values) x l then fired d l r else r
+unfoldable pub linkTried : OwnerTest → Document → Line → ℕ → Run → Run
+linkTried admits d x l r = if goesOn r && fires admits d (r .state) x l then fired d l r else r
 
 -- "for each, links by id"
-unfoldable pub lineTaken : Document → Line → Run → Run
-lineTaken d x r = ascending (linkTried d x) (d .links .count) r
+unfoldable pub lineTaken : OwnerTest → Document → Line → Run → Run
+lineTaken admits d x r = ascending (linkTried admits d x) (d .links .count) r
 
 -- "Its lines are taken in order from the call's first": from line k, at most so many; "The call ends when no line is left."
-unfoldable pub linesTaken : Document → ℕ → ℕ → Run → Run
-linesTaken d zero k r = r
-linesTaken d (suc most) k r =
+unfoldable pub linesTaken : OwnerTest → Document → ℕ → ℕ → Run → Run
+linesTaken admits d zero k r = r
+linesTaken admits d (suc most) k r =
     if goesOn r && k <? length (r .log .lines)
-    then linesTaken d most (k + 1) (lineTaken d (getD (r .log .lines) k (line 0 0 0)) r)
+    then linesTaken admits d most (k + 1) (lineTaken admits d (getD (r .log .lines) k (line 0 0 0)) r)
     else r
 
 -- there are never more lines than there is room for
-unfoldable pub chained : Document → Run → Run
-chained d r = linesTaken d (r .log .room) 0 r
+unfoldable pub chained : OwnerTest → Document → Run → Run
+chained admits d r = linesTaken admits d (r .log .room) 0 r

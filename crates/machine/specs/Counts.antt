@@ -13,6 +13,7 @@ use Rattle.machine.specs.Tables.{isMedia, anchorAt, linkAt, actionAt, ac
 use Rattle.machine.specs.Answers.{Answer, accepted, refused}
 use Rattle.machine.specs.Load.{load}
 use Rattle.machine.specs.Events.{nodeState, nodeClock}
+use Rattle.machine.specs.Owners.{outsideSwitches}
 use Rattle.machine.specs.Broken.{broken}
 use Rattle.machine.specs.Operations.{commandSets, call, sessionAfter, resultsOf, joined}
 use Rattle.machine.specs.Demand3.{Awake, Inside}
@@ -96,6 +97,13 @@ setsNoOther d m p l = timesSet d p l =? 0 || isCountLinkIn d m p l
 unfoldable pub noOther : Document → ℕ → ℕ → Bool
 noOther d m p = every (setsNoOther d m p) (d .links .count)
 
+-- 7. "no switch lies above the owner of a count's link": by Req 01 links below a switch fire only while the path to them is chosen
+unfoldable pub ownerOutsideSwitches : Document → ℕ → ℕ → ℕ → Bool
+ownerOutsideSwitches d m p l = not (isCountLinkIn d m p l) || outsideSwitches (d .nodes) (linkAt (d .links) l .owner)
+
+unfoldable pub eachOutsideSwitches : Document → ℕ → ℕ → Bool
+eachOutsideSwitches d m p = every (ownerOutsideSwitches d m p) (d .links .count)
+
 -- "the first condition that fails" of those from number n on, 0 if none does
 unfoldable pub firstFailing : ℕ → List Bool → ℕ
 firstFailing n [] = 0
@@ -109,6 +117,7 @@ conditions d m p =
     ∷ eachSetsOnce d m p
     ∷ eachUnguarded d m p
     ∷ noOther d m p
+    ∷ eachOutsideSwitches d m p
     ∷ []
 
 unfoldable pub failing : Document → ℕ → ℕ → ℕ

@@ -7,7 +7,7 @@ use lib.ListN.{getD, set}
 use Rattle.base.specs.Tests.{if_then_else_, _=?_, _<?_, _≤?_}
 use Rattle.base.specs.Loops.{ascending, descending, some, first}
 use Rattle.machine.specs.Terms.{context, media, sleeping, occurring, paused, toStart, toAbort, toResume, toSet, noTransition, starts, stops, aborts, pauses, resumes, ofNode, ofAnchor, ofProperty, noId}
-use Rattle.machine.specs.Tables.{typeOf, parentOf, isMedia, anchorAt, bindAt, portAt, withNodeEvents, withAnchorEvents, withPropertyEvents}
+use Rattle.machine.specs.Tables.{typeOf, parentOf, isMedia, anchorAt, bindAt, portAt, withNodeEvents, withAnchorEvents, withPropertyEvents, withChoices}
 use Rattle.machine.specs.Records.{isDefault}
 use Rattle.machine.specs.Deciding.{ruleHolds}
 use Rattle.machine.specs.Log.{Log, line, logged}
@@ -188,6 +188,14 @@ foundBind binds rules values n =
     let b = first (bindHolds binds rules values n) (binds .count) 0 in
     if b <? binds .count then b else first (isDefault binds n) (binds .count) 0
 
+-- the run with these choices
+abbrev pub choicesSet : List ℕ → Run → Run
+choicesSet choices r = withState (withChoices choices (r .state)) (r .log) r
+
+-- Req 01: "The session remembers the choice" of switch n: the child, or 0 for none, since node 0 is nobody's child
+unfoldable pub choiceMade : ℕ → ℕ → Run → Run
+choiceMade n child r = choicesSet (set (r .state .choices) n child) r
+
 -- where `start` starts a child: "A sleeping context starts its ports' children in record order"
 unfoldable pub portStarted : Document → (ℕ → Run → Run) → ℕ → ℕ → Run → Run
 portStarted d start n p r = if portAt (d .ports) p .context =? n then start (portAt (d .ports) p .child) r else r
@@ -195,13 +203,16 @@ portStarted d start n p r = if portAt (d .ports) p .context =? n then start (por
 unfoldable pub contextStarted : Document → (ℕ → Run → Run) → ℕ → Run → Run
 contextStarted d start n r = ascending (portStarted d start n) (d .ports .count) r
 
--- "and a sleeping switch starts the child of its first bind whose rule holds"
+-- "and a sleeping switch starts the child of its first bind whose rule holds"; Req 01: it is then the child "last chosen by a start of
+-- that switch", and "A start that finds no child clears the choice"
 unfoldable pub switchStarted : Document → (ℕ → Run → Run) → ℕ → Run → Run
 switchStarted d start n r =
     let b = foundBind (d .binds) (d .rules) (r .state .properties .values) n in
-    if b <? d .binds .count then start (bindAt (d .binds) b .child) r else r
+    if b <? d .binds .count
+    then start (bindAt (d .binds) b .child) (choiceMade n (bindAt (d .binds) b .child) r)
+    else choiceMade n 0 r
 
--- "Start of an awake composite does nothing."
+-- "Start of an awake composite does nothing."; Req 01: "Starting the child directly, or a switch already awake, leaves the choice."
 unfoldable pub startedOne : Document → (ℕ → Run → Run) → ℕ → Run → Run
 startedOne d start n r =
     if isMedia (d .nodes) n then mediaMoved (d .anchors) toStart n r

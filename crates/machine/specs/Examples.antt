@@ -40,19 +40,19 @@ pub record Example : Type 0 where
   pub given : Shown
   pub wanted : Shown
 
-shows : Shown → String → List Answer → Example
+unfoldable pub shows : Shown → String → List Answer → Example
 shows given printed reads = record { given = given; wanted = record { printed = text printed; reads = reads } }
 
-printedCalls : ℕ → List CallResult → List ℕ
+unfoldable pub printedCalls : ℕ → List CallResult → List ℕ
 printedCalls n [] = []
 printedCalls n (r ∷ rs) = printedCall n r ++ printedCalls (n + 1) rs
 
-readsOf : Session → List (ℕ × ℕ) → List Answer
+unfoldable pub readsOf : Session → List (ℕ × ℕ) → List Answer
 readsOf s [] = []
 readsOf s ((class, id) ∷ subjects) = read s class id ∷ readsOf s subjects
 
 -- a document's calls, each with the length of its log slice, and then some reads by class and id
-run : List ℕ → List (Call × ℕ) → List (ℕ × ℕ) → Shown
+unfoldable pub run : List ℕ → List (Call × ℕ) → List (ℕ × ℕ) → Shown
 run document calls subjects =
     let s = load document .session in
     record { printed = printedCalls 1 (resultsOf s calls); reads = readsOf (sessionAfter s calls) subjects }

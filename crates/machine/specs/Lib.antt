@@ -8,14 +8,17 @@ pub mod Log
 pub mod Deciding
 pub mod Events
 pub mod Tick
+pub mod Owners
 pub mod Chain
 pub mod Broken
 pub mod Sound
 pub mod OfColumns
 pub mod Operations
+pub mod OwnersOutside
 pub mod Demand3
 pub mod Counts
 pub mod Text
 pub mod PrintedRun
 pub mod Computing
 pub mod Examples
+pub mod ChoiceExamples

@@ -11,6 +11,7 @@ use Rattle.machine.specs.Records.{actionRight, targetGiven, subjectGiven
 use Rattle.machine.specs.Log.{emptyLog, sliceWith, linesOf}
 use Rattle.machine.specs.Events.{Run, nodeState, nodeCount, anchorState, anchorCount, propertyCount, acted}
 use Rattle.machine.specs.Tick.{ticked, keyed}
+use Rattle.machine.specs.Owners.{OwnerTest, ownerChosen}
 use Rattle.machine.specs.Chain.{goesOn, chained}
 use Rattle.machine.specs.Broken.{broken}
 use Rattle.machine.specs.declared.Document.{Document}
@@ -63,9 +64,9 @@ commandSets p Tick = false
 abbrev pub freshRun : State → ℕ → Run
 freshRun state bytes = record { state = state; log = emptyLog bytes; firings = 0 }
 
--- the whole run of a call on a session
-unfoldable pub runOf : Session → Call → ℕ → Run
-runOf s call bytes = chained (s .document) (begun (s .document) call (freshRun (s .state) bytes))
+-- the whole run of a call on a session, by the owners that firing admits
+unfoldable pub runAdmitting : OwnerTest → Session → Call → ℕ → Run
+runAdmitting admits s call bytes = chained admits (s .document) (begun (s .document) call (freshRun (s .state) bytes))
 
 -- "after a refusal the session is the one handed in .. and the log slice is all zero"
 unfoldable pub callRefused : ℕ → Session → ℕ → CallResult
@@ -83,11 +84,18 @@ ended s bytes r =
     else callRefused (r .log .stop) s bytes
 
 -- "Command. 13 broken session; 9 ..; 10 ..; then 11 or 12 as under Chain." "Key, tick. 13; then 11 or 12."
-unfoldable pub call : Session → Call → ℕ → CallResult
-call s c bytes =
+unfoldable pub callAdmitting : OwnerTest → Session → Call → ℕ → CallResult
+callAdmitting admits s c bytes =
     if broken s then callRefused 13 s bytes
     else if not (argumentFault (s .document) c =? 0) then callRefused (argumentFault (s .document) c) s bytes
-    else ended s bytes (runOf s c bytes)
+    else ended s bytes (runAdmitting admits s c bytes)
+
+-- the machine admits the owners that Req 01 does
+abbrev pub runOf : Session → Call → ℕ → Run
+runOf s c bytes = runAdmitting ownerChosen s c bytes
+
+abbrev pub call : Session → Call → ℕ → CallResult
+call s c bytes = callAdmitting ownerChosen s c bytes
 
 -- ---- "Read (node, anchor or property by class and id). 13; 9 class not 1 to 3; 10 no such id."
 

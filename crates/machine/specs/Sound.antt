@@ -4,6 +4,7 @@ use mathlib.Core.Bool.{true, false}
 use mathlib.Core.Path.{_≡_}
 use Rattle.machine.specs.Terms.{switch, toStart, toSet, simpleRule, noId}
 use Rattle.machine.specs.Tables.{typeOf, parentOf, durationOf, isMedia, anchorAt, ruleAt, bindAt, portAt, linkAt, actionCount, actionAt}
+use Rattle.machine.specs.Broken.{choiceRight}
 use Rattle.machine.specs.declared.Nodes.{Nodes}
 use Rattle.machine.specs.declared.Rules.{Rules}
 use Rattle.machine.specs.declared.Document.{Document}
@@ -46,10 +47,12 @@ pub record Sound (d : Document) : Type 0 where
   pub bind-later : (b : ℕ) → b < d .binds .count → bindAt (d .binds) b .switch < bindAt (d .binds) b .child
   pub bind-child : (b : ℕ) → b < d .binds .count → bindAt (d .binds) b .child < d .nodes .count
   pub bind-rule : (b : ℕ) → b < d .binds .count → (bindAt (d .binds) b .rule ≡ noId → ⊥) → bindAt (d .binds) b .rule < d .rules .count
+  pub bind-choice : (b : ℕ) → b < d .binds .count → choiceRight (d .nodes) (bindAt (d .binds) b .switch) (bindAt (d .binds) b .child) ≡ true
   pub ports : d .ports .count ≤ 64
   pub port-later : (p : ℕ) → p < d .ports .count → portAt (d .ports) p .context < portAt (d .ports) p .child
   pub port-child : (p : ℕ) → p < d .ports .count → portAt (d .ports) p .child < d .nodes .count
   pub links : d .links .count ≤ 64
+  pub link-owner : (l : ℕ) → l < d .links .count → linkAt (d .links) l .owner < d .nodes .count
   pub link-guard : (l : ℕ) → l < d .links .count → (linkAt (d .links) l .guard ≡ noId → ⊥) → linkAt (d .links) l .guard < d .rules .count
   pub actions : (l : ℕ) → l < d .links .count → actionCount (d .links) l ≤ 8
   pub link-action : (l j : ℕ) → l < d .links .count → j < actionCount (d .links) l → Applicable d (actionAt (d .actions) l j)

@@ -59,12 +59,13 @@ emptyDocument = record {
   actions = record { actions = replicate 512 0; targets = replicate 512 0; values = replicate 512 (pos 0) };
 }
 
--- "A new session has all sleeping, clocks and counts 0."
+-- "A new session has all sleeping, clocks and counts 0."; of choices, Req 01: "a new session has none"
 unfoldable pub newState : State
 newState = record {
   nodes = record { states = replicate 64 sleeping; clocks = replicate 64 0; counts = replicate 64 0 };
   anchors = record { states = replicate 128 sleeping; counts = replicate 128 0 };
   properties = record { values = replicate 32 (pos 0); counts = replicate 32 0 };
+  choices = replicate 64 0;
 }
 
 unfoldable pub emptySession : Session
@@ -312,16 +313,19 @@ withPorts t d = documentOf (d .limit) (d .nodes) (d .anchors) (d .properties) (d
 abbrev pub withLinks : Links → Actions → Document → Document
 withLinks t a d = documentOf (d .limit) (d .nodes) (d .anchors) (d .properties) (d .rules) (d .binds) (d .ports) t a
 
--- ---- a state with other events
+-- ---- a state with other events, or other choices
 
 abbrev pub withNodeEvents : NodeEvents → State → State
-withNodeEvents t s = record { nodes = t; anchors = s .anchors; properties = s .properties }
+withNodeEvents t s = record { nodes = t; anchors = s .anchors; properties = s .properties; choices = s .choices }
 
 abbrev pub withAnchorEvents : AnchorEvents → State → State
-withAnchorEvents t s = record { nodes = s .nodes; anchors = t; properties = s .properties }
+withAnchorEvents t s = record { nodes = s .nodes; anchors = t; properties = s .properties; choices = s .choices }
 
 abbrev pub withPropertyEvents : PropertyEvents → State → State
-withPropertyEvents t s = record { nodes = s .nodes; anchors = s .anchors; properties = t }
+withPropertyEvents t s = record { nodes = s .nodes; anchors = s .anchors; properties = t; choices = s .choices }
+
+abbrev pub withChoices : List ℕ → State → State
+withChoices choices s = record { nodes = s .nodes; anchors = s .anchors; properties = s .properties; choices = choices }
 
 abbrev pub withValues : List ℤ → State → State
 withValues values s = withPropertyEvents (record { values = values; counts = s .properties .counts }) s

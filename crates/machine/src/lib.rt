@@ -105,11 +105,13 @@ pub struct PropertyEvents {
     pub counts: [u32; 32],
 }
 
+// Choices: the child that each switch chose last; 0 where there is none, and for a node that is no switch.
 #[repr(C)]
 pub struct State {
     pub nodes: NodeEvents,
     pub anchors: AnchorEvents,
     pub properties: PropertyEvents,
+    pub choices: [u8; 64],
 }
 
 #[repr(C)]
@@ -257,7 +259,7 @@ pub enum ReadAnswer {
     Refused(Refusal),
 }
 
-// The conditions under which a document shows the counts of a media in a property, in the order of their numbers, 1 to 6.
+// The conditions under which a document shows the counts of a media in a property, in the order of their numbers, 1 to 7.
 pub enum Condition {
     HasAnchor,
     AnchorsDisjoint,
@@ -265,6 +267,7 @@ pub enum Condition {
     EachSetsOnce,
     EachUnguarded,
     NoOtherAction,
+    EachOutsideSwitches,
 }
 
 // Whether a document shows the counts, or the first condition that fails.

@@ -1,4 +1,5 @@
 // Whether a session is broken. Any session may be handed in: its counts may be any numbers, its bytes any bytes.
+use choices::choices_right;
 use end_check::document_ends_zero;
 use end_check::state_ends_zero;
 use machine::Session;
@@ -16,5 +17,12 @@ pub fn is_broken(s: Session) -> bool
         return true;
     }
     let zero = document_ends_zero(d) & state_ends_zero(d, state);
-    !(zero & states_right(d, state))
+    !(zero
+        & states_right(d, state)
+        & choices_right(
+            d.nodes.count,
+            &d.nodes.types,
+            &d.nodes.parents,
+            &state.choices,
+        ))
 }

@@ -1,5 +1,5 @@
 -- Laws of the queue: it has room for one media more, and the run that it makes then is the start of that media on the one that it made before.
-use mathlib.Core.Path.{_≡_, refl, _∙_}
+use mathlib.Core.Path.{_≡_, refl, ap, _∙_}
 use mathlib.Core.Bool.{Bool}
 use mathlib.Core.List.{List, [], _∷_}
 use Prim.Native.Nat.{ℕ, zero, suc, _+_, _≤_, _<_}
@@ -10,13 +10,13 @@ use lib.Seq.{getD-set-same, getD-set-other}
 use Rattle.base.specs.Tests.{if_then_else_, by-test, _=?_}
 use Rattle.base.specs.Loops.{ascending, ascending-more, ascending-same}
 use Rattle.machine.specs.Terms.{sleeping, occurring, toStart}
-use Rattle.machine.specs.Events.{Run, nodeState, transition, nextState, lineFirst, nodeTo, nodeChanged, anchorTo, anchorChanged, anchorsMoved, mediaTo, mediaMoved}
+use Rattle.machine.specs.Events.{Run, choicesSet, nodeState, transition, nextState, lineFirst, nodeTo, nodeChanged, anchorTo, anchorChanged, anchorsMoved, mediaTo, mediaMoved}
 use Rattle.machine.specs.declared.Anchors.{Anchors}
 use Rattle.machine.specs.declared.Document.{Document}
 use Rattle.machine.proofs.Keep.{chosen, pass-keeps}
-use Rattle.machine.proofs.Effects.{getD-set}
-use Rattle.starting.specs.Queues.{queueOf, queueMoved}
-use Rattle.starting.specs.Reaching.{sleepers, Room, QueueRun}
+use Rattle.machine.proofs.Effects.{getD-set, media-any-choices}
+use Rattle.starting.specs.Queues.{queueOf, queueMoved, reachOf, reachStarted}
+use Rattle.starting.specs.Reaching.{sleepers, Room, ReachRun}
 
 -- ---- how many sleep: no more than there are, and one less after one wakes
 
@@ -88,12 +88,15 @@ module _ (states media : List ℕ) (count n : ℕ) (room : Room states (queueOf 
     ids = ids-more media count n (omega (arith, queue-room, room .queue-places)) h (room .ids);
   }
 
-  pub run-more : (d : Document) (s x : Run) → QueueRun (d .anchors) s states (queueOf media count) x
-      → QueueRun (d .anchors) s (set states n occurring) (queueOf (set media count n) (count + 1)) (mediaMoved (d .anchors) toStart n x)
-  run-more d s x a =
+  pub run-more : (choices : List ℕ) (d : Document) (s x : Run) → ReachRun (d .anchors) s states (reachOf media count choices) x
+      → ReachRun (d .anchors) s (set states n occurring) (reachOf (set media count n) (count + 1) choices) (mediaMoved (d .anchors) toStart n x)
+  unfolding reachStarted
+  run-more choices d s x a =
       let has = media-wakes d n x (rw (a .nodes) sleeps) in
       record {
-        run = moved-more media count n (omega (arith, queue-room, room .queue-places)) (d .anchors) toStart s x (a .run);
+        run = ap (mediaMoved (d .anchors) toStart n) (a .run)
+            ∙ media-any-choices choices (d .anchors) toStart n _
+            ∙ ap (choicesSet choices) (moved-more media count n (omega (arith, queue-room, room .queue-places)) (d .anchors) toStart s _ refl);
         nodes = has .states-are ∙ rw (a .nodes);
         values = has .values-stay ∙ a .values;
       }
@@ -103,6 +106,6 @@ module _ (states media : List ℕ) (count n : ℕ) (room : Room states (queueOf 
 pub room-none : (states : List ℕ) → length states ≡ 64 → Room states (queueOf (replicate 64 0) 0)
 room-none states places = record { state-places = places; queue-places = refl; most = omega (arith, sleepers-few states); ids = λ i h. absurd (omega arith) }
 
-pub run-none : (anchors : Anchors) (s : Run) → QueueRun anchors s (s .state .nodes .states) (queueOf (replicate 64 0) 0) s
-unfolding queueMoved ascending
+pub run-none : (anchors : Anchors) (s : Run) → ReachRun anchors s (s .state .nodes .states) (reachOf (replicate 64 0) 0 (s .state .choices)) s
+unfolding reachStarted queueMoved ascending
 run-none anchors s = record { run = refl; nodes = refl; values = refl }

@@ -7,7 +7,7 @@ use mathlib.Core.Path.{_≡_}
 use lib.IntN.{ℤ}
 use lib.ListN.{length, getD}
 use Rattle.base.specs.Tests.{if_then_else_, _=?_}
-use Rattle.machine.specs.Terms.{context, media, sleeping, toStart}
+use Rattle.machine.specs.Terms.{context, media, sleeping}
 use Rattle.machine.specs.Tables.{portAt}
 use Rattle.machine.specs.Events.{Run, awake, contextStarted, switchStarted, started}
 use Rattle.machine.specs.Sound.{Sound}
@@ -16,8 +16,9 @@ use Rattle.machine.specs.declared.Anchors.{Anchors}
 use Rattle.machine.specs.declared.Ports.{Ports}
 use Rattle.machine.specs.declared.Document.{Document}
 use Rattle.choosing.specs.Choosing.{FoundChildren}
-use Rattle.starting.specs.Queues.{queueMoved}
+use Rattle.starting.specs.Queues.{reachStarted}
 use Rattle.starting.specs.declared.Queue.{Queue}
+use Rattle.starting.specs.declared.Reach.{Reach}
 use Rattle.starting.specs.declared.reaching.Start.{Start}
 
 -- what is found at a node of this type and state, if it is reached: "Start of an awake composite does nothing", nor does that of an awake media
@@ -70,17 +71,17 @@ pub record Room (states : List ℕ) (q : Queue) : Type 0 where
   pub most : q .count + sleepers states ≤ 64
   pub ids : (i : ℕ) → i < q .count → getD (q .media) i 0 < 64
 
--- the start of the queue's media makes run x of run s, and x has these states
-pub record QueueRun (anchors : Anchors) (s : Run) (states : List ℕ) (q : Queue) (x : Run) : Type 0 where
-  pub run : x ≡ queueMoved anchors toStart q s
+-- the start of what is reached makes run x of run s, and x has these states
+pub record ReachRun (anchors : Anchors) (s : Run) (states : List ℕ) (q : Reach) (x : Run) : Type 0 where
+  pub run : x ≡ reachStarted anchors q s
   pub nodes : x .state .nodes .states ≡ states
   pub values : x .state .properties .values ≡ s .state .properties .values
 
--- the states and the queue before a step on node n, and after it: the run that the queue makes then is the step, of so many levels, of the run that it made before
-pub record Reached (w : StartTables) (n : ℕ) (step : Document → ℕ → Run → Run) (states : List ℕ) (q : Queue) (states' : List ℕ) (q' : Queue) : Type 0 where
-  pub room : Room states' q'
-  pub run : (d : Document) (s x : Run) → StartTablesOf d (s .state .properties .values) w → QueueRun (d .anchors) s states q x
-      → (levels : ℕ) → 64 ≤ n + (levels + 1) → QueueRun (d .anchors) s states' q' (step d levels x)
+-- the states and what is reached before a step on node n, and after it: the run that this makes then is the step, of so many levels, of the run that it made before
+pub record Reached (w : StartTables) (n : ℕ) (step : Document → ℕ → Run → Run) (states : List ℕ) (q : Reach) (states' : List ℕ) (q' : Reach) : Type 0 where
+  pub room : Room states' (q' .queue)
+  pub run : (d : Document) (s x : Run) → StartTablesOf d (s .state .properties .values) w → ReachRun (d .anchors) s states q x
+      → (levels : ℕ) → 64 ≤ n + (levels + 1) → ReachRun (d .anchors) s states' q' (step d levels x)
 
 abbrev pub contextBy : ℕ → Document → ℕ → Run → Run
 contextBy n d levels x = contextStarted d (started d levels) n x

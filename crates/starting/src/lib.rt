@@ -1,4 +1,5 @@
-// Which media the start of a node reaches, in which order. Nothing is started here: the answer is a queue of media.
+// Which media the start of a node reaches, in which order, and what the switches that it reaches choose. Nothing is started here: the
+// answer is a queue of media, with the choices.
 mod reaching;
 
 use choosing::found_children;
@@ -17,10 +18,22 @@ pub struct Queue {
     pub count: usize,
 }
 
-// The media that the start of node n reaches, where nodes have these states and properties these values.
-pub fn media_of_start(d: Document, states: [u8; 64], values: [i32; 32], n: usize) -> Queue
+// What a start reaches: its media, and the choices after it.
+pub struct Reach {
+    pub queue: Queue,
+    pub choices: [u8; 64],
+}
+
+// What the start of node n reaches, where nodes have these states, properties these values and switches these choices.
+pub fn media_of_start(
+    d: Document,
+    states: [u8; 64],
+    values: [i32; 32],
+    choices: [u8; 64],
+    n: usize,
+) -> Reach
     requires { ⌜ Sound d × (n < d .nodes .count) ⌝ }
-    ensures { λ r. ⌜ MediaOfStart d states values n r ⌝ }
+    ensures { λ r. ⌜ MediaOfStart d states values choices n r ⌝ }
 {
     let nodes = d.nodes;
     let ports = d.ports;
@@ -29,41 +42,47 @@ pub fn media_of_start(d: Document, states: [u8; 64], values: [i32; 32], n: usize
     let start = start_of(true, nodes.types[n], states[n]);
     let mut media = [0u8; 64];
     let mut left = states;
-    match start {
-        Start::Nothing => Queue { media, count: 0 },
+    let mut after = choices;
+    let count = match start {
+        Start::Nothing => 0,
         Start::Media => {
             media[0] = n as u8;
-            Queue { media, count: 1 }
+            1
         }
         Start::Context => {
             let chosen = found_children(binds, rules, values);
-            let count = start_context(
+            start_context(
                 ports.count,
                 &ports.contexts,
                 &ports.children,
                 &nodes.types,
                 &chosen,
                 &mut left,
+                &mut after,
                 &mut media,
                 0,
                 n,
-            );
-            Queue { media, count }
+            )
         }
         Start::Switch => {
             let chosen = found_children(binds, rules, values);
-            let count = start_switch(
+            start_switch(
                 ports.count,
                 &ports.contexts,
                 &ports.children,
                 &nodes.types,
                 &chosen,
                 &mut left,
+                &mut after,
                 &mut media,
                 0,
                 n,
-            );
-            Queue { media, count }
+            )
         }
+    };
+    let queue = Queue { media, count };
+    Reach {
+        queue,
+        choices: after,
     }
 }

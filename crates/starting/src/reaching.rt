@@ -6,7 +6,7 @@ ghost use mathlib.Core.Path.{_≡_};
 ghost use Prim.Native.Nat.{_+_, _<_};
 ghost use lib.ListN.{getD, set};
 ghost use Rattle.machine.specs.Terms.{sleeping, occurring};
-ghost use Rattle.starting.specs.Queues.{queueOf};
+ghost use Rattle.starting.specs.Queues.{queueOf, reachOf};
 ghost use Rattle.starting.specs.Reaching.{startOf, tablesOfStart, LaterChildren, Room, Reached, contextBy, switchBy};
 
 // What a start finds at a node: a sleeping media, context or switch, or nothing that it would change.
@@ -55,6 +55,7 @@ pub fn start_context<'a>(
     types: &'a [u8; 64],
     chosen: &'a [u8; 64],
     states: &mut [u8; 64],
+    choices: &mut [u8; 64],
     media: &mut [u8; 64],
     count: usize,
     n: usize,
@@ -63,8 +64,8 @@ pub fn start_context<'a>(
         × Room (now states) (queueOf (now media) count) ⌝ }
     ensures { λ r. ⌜ Reached (tablesOfStart ports (now (contexts .entry)) (now (children .entry)) (now (types .entry))
         (now (chosen .entry))) n (contextBy n)
-        (now (states .entry)) (queueOf (now (media .entry)) count) (now (states .exit))
-        (queueOf (now (media .exit)) r) ⌝ }
+        (now (states .entry)) (reachOf (now (media .entry)) count (now (choices .entry))) (now (states .exit))
+        (reachOf (now (media .exit)) r (now (choices .exit))) ⌝ }
 {
     let mut t = count;
     let mut next = 0;
@@ -83,6 +84,7 @@ pub fn start_context<'a>(
                 types,
                 chosen,
                 &mut *states,
+                &mut *choices,
                 &mut *media,
                 t,
                 child,
@@ -94,6 +96,7 @@ pub fn start_context<'a>(
                 types,
                 chosen,
                 &mut *states,
+                &mut *choices,
                 &mut *media,
                 t,
                 child,
@@ -104,7 +107,7 @@ pub fn start_context<'a>(
     t
 }
 
-// A sleeping switch starts the child that it finds.
+// A sleeping switch chooses and starts the child that it finds.
 pub fn start_switch<'a>(
     ports: usize,
     contexts: &'a [u8; 64],
@@ -112,6 +115,7 @@ pub fn start_switch<'a>(
     types: &'a [u8; 64],
     chosen: &'a [u8; 64],
     states: &mut [u8; 64],
+    choices: &mut [u8; 64],
     media: &mut [u8; 64],
     count: usize,
     n: usize,
@@ -120,9 +124,10 @@ pub fn start_switch<'a>(
         × Room (now states) (queueOf (now media) count) × (n < 64) ⌝ }
     ensures { λ r. ⌜ Reached (tablesOfStart ports (now (contexts .entry)) (now (children .entry)) (now (types .entry))
         (now (chosen .entry))) n (switchBy n)
-        (now (states .entry)) (queueOf (now (media .entry)) count) (now (states .exit))
-        (queueOf (now (media .exit)) r) ⌝ }
+        (now (states .entry)) (reachOf (now (media .entry)) count (now (choices .entry))) (now (states .exit))
+        (reachOf (now (media .exit)) r (now (choices .exit))) ⌝ }
 {
+    choices[n] = chosen[n];
     let child = index_of(chosen[n]);
     let start = start_of(child != 0, types[child], states[child]);
     match start {
@@ -134,6 +139,7 @@ pub fn start_switch<'a>(
             types,
             chosen,
             states,
+            choices,
             media,
             count,
             child,
@@ -145,6 +151,7 @@ pub fn start_switch<'a>(
             types,
             chosen,
             states,
+            choices,
             media,
             count,
             child,

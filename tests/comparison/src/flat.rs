@@ -4,7 +4,7 @@
 
 use second_engine::written::{WrittenAction, WrittenSession};
 
-pub const SESSION_SIZE: usize = 6_393;
+pub const SESSION_SIZE: usize = 6_457;
 
 pub fn bytes_of<Session: Fields + Clone>(session: &Session) -> Vec<u8> {
     let mut bytes = Vec::with_capacity(SESSION_SIZE);
@@ -106,6 +106,7 @@ impl Fields for WrittenSession {
         columns!(walk, &mut self.nodes, state, clock, count);
         columns!(walk, &mut self.anchors, state, count);
         columns!(walk, &mut self.properties, value, count);
+        columns!(walk, &mut self.nodes, choice);
     }
 }
 

@@ -118,6 +118,7 @@ tables! {
         nodes: NodeEvents,
         anchors: AnchorEvents,
         properties: PropertyEvents,
+        choices: [u8; MOST_NODES],
     }
 
     struct Session {

@@ -232,18 +232,24 @@ pub fn compare_counts_of_written(
     counts_of_written(&session_of(bytes), &session_of(bytes), count_ids(random))
 }
 
-/// A session changed in some way: its fields, its bytes, or parts of it from another session.
+/// A session changed in some way: its fields, its choices, its bytes, or parts of it from another
+/// session.
 pub fn changed(random: &mut Random, session: &[u8], other: &[u8]) -> Vec<u8> {
     let mut bytes = session.to_vec();
     for _ in 0..random.pick(&[1, 1, 1, 2, 5]) {
-        match random.below(4) {
+        match random.below(5) {
             0 => {
                 let mut written: WrittenSession = session_of(&bytes);
                 generate::change_field(random, &mut written);
                 bytes = bytes_of(&written);
             }
-            1 => bytes[random.below(SESSION_SIZE)] = random.likely_byte(),
-            2 => {
+            1 => {
+                let mut written: WrittenSession = session_of(&bytes);
+                generate::change_choice(random, &mut written);
+                bytes = bytes_of(&written);
+            }
+            2 => bytes[random.below(SESSION_SIZE)] = random.likely_byte(),
+            3 => {
                 let place = random.below(SESSION_SIZE);
                 bytes[place] = bytes[place].wrapping_add(random.pick(&[1, 255, 128]));
             }

@@ -11,6 +11,7 @@ use comparison::runs::{
 use second_engine::coverage::{Coverage, Feature};
 use second_engine::generate;
 use second_engine::random::Random;
+use second_engine::written::NO_CHOICE;
 use second_engine::{Call, Fault, WrittenSession};
 
 #[test]
@@ -64,6 +65,7 @@ fn written_sessions() {
         for (session, _) in &found {
             if random.one_in(2) {
                 let changed = changed(&mut random, session, &other);
+                coverage.meet_written(&session_of(session), &session_of(&changed));
                 equal(run_written(&mut random, seed, changed, 3, &mut count, &mut coverage));
             }
         }
@@ -92,6 +94,10 @@ fn written_sessions() {
     assert!(count.broken > 1_000 && count.accepted > 1_000);
     assert!(coverage.number(Feature::CountsCheckRefused { refusal: 13 }) > 1_000);
     assert!(coverage.number(Feature::CountRefused { refusal: 13 }) > 1_000);
+    for feature in Feature::expected_of_written() {
+        println!("{feature:?}: {}", coverage.number(feature));
+    }
+    assert_eq!(coverage.missing_of_written(), []);
 }
 
 fn awake_events(session: &WrittenSession) -> usize {
@@ -99,8 +105,12 @@ fn awake_events(session: &WrittenSession) -> usize {
         + session.anchors.iter().filter(|anchor| anchor.state != 0).count()
 }
 
+fn choices(session: &WrittenSession) -> usize {
+    session.nodes.iter().filter(|node| node.choice != NO_CHOICE).count()
+}
+
 /// For each of some documents the session in which most is awake, those with the most events,
-/// rules and binds first.
+/// rules, binds and choices first.
 fn rich_sessions() -> Vec<(u64, Vec<u8>, Call)> {
     let mut rich: Vec<(u64, Vec<u8>, Call)> = Vec::new();
     for seed in 0..400 {
@@ -111,7 +121,8 @@ fn rich_sessions() -> Vec<(u64, Vec<u8>, Call)> {
     }
     rich.sort_by_cached_key(|(_, session, _)| {
         let written: WrittenSession = session_of(session);
-        Reverse(awake_events(&written) + written.rule_count + written.bind_count)
+        let tables = written.rule_count + written.bind_count;
+        Reverse(awake_events(&written) + tables + choices(&written))
     });
     rich
 }
@@ -229,11 +240,11 @@ fn reads_of_every_class_and_id() {
     println!("reads of every class and id: {count:?}");
 }
 
-// A comparison that cannot fail shows nothing: each of 01's traps, planted in the second engine,
-// is found.
+// A comparison that cannot fail shows nothing: each of 01's traps and each fault against Req 01,
+// planted in the second engine, is found.
 #[test]
 fn planted_faults_are_found() {
-    for fault in Fault::TRAPS {
+    for fault in Fault::TRAPS.into_iter().chain(Fault::AGAINST_CHOICES) {
         let found = (0..1_000).filter(|&seed| {
             let (mut count, mut coverage) = (Count::default(), Coverage::new());
             run(seed, Some(fault), &mut count, &mut coverage).is_err()

@@ -101,25 +101,26 @@ fn generated_documents_and_scripts() {
     }
 }
 
-// A comparison that cannot fail shows nothing: 01's traps, planted in the second engine, are found.
-// All but one: counts are not printed, so that counted aborts are seen in sessions only, which
-// the test of the same name in `generated` compares.
+// A comparison that cannot fail shows nothing: 01's traps and the faults against Req 01, planted in
+// the second engine, are found. All but one: counts are not printed, so that counted aborts are seen
+// in sessions only, which the test of the same name in `generated` compares.
 #[test]
 fn planted_faults_are_found() {
     const RUNS: u64 = 600;
     let program = Program::new("faults");
-    let mut found = [0; Fault::TRAPS.len()];
+    let faults: Vec<Fault> = Fault::TRAPS.into_iter().chain(Fault::AGAINST_CHOICES).collect();
+    let mut found = vec![0; faults.len()];
     for seed in 0..RUNS {
         let mut random = Random::new(seed);
         let document = generate::document(&mut random);
         let script = script_of(&generate::calls(&mut random, &document, 30));
         let printed = run_seed(&program, seed, &document.bytes, &script);
-        for (found, fault) in found.iter_mut().zip(Fault::TRAPS) {
+        for (found, &fault) in found.iter_mut().zip(&faults) {
             let faulty = printed_run_with(&document.bytes, &script, Some(fault));
             *found += usize::from(same_run(&printed, &faulty).is_err());
         }
     }
-    for (found, fault) in found.into_iter().zip(Fault::TRAPS) {
+    for (found, fault) in found.into_iter().zip(faults) {
         println!("{fault:?}: found in {found} of {RUNS} printed runs");
         assert_eq!(found > 0, fault != Fault::CountAborts, "{fault:?}");
     }

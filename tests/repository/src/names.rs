@@ -11,6 +11,10 @@ const ELSEWHERE: [&str; 6] =
 /// What the names of things that are built, or that the kit gives, begin with.
 const BUILT_OR_GIVEN: [&str; 2] = ["target/", "std::"];
 
+/// The lists of examples, by the letter of their entries.
+const EXAMPLES: [(char, &str); 2] =
+    [('E', "crates/machine/specs/Examples.antt"), ('C', "crates/machine/specs/ChoiceExamples.antt")];
+
 /// The names of a document that name nothing, each with the number of its line.
 pub fn missing(document: &str, sources: &Sources) -> Vec<String> {
     let mut missing = Vec::new();
@@ -113,10 +117,12 @@ fn wrong_in_text(text: &str, sources: &Sources) -> Vec<String> {
 }
 
 /// Whether an edit is there, as `transitions/awake_at_end`; a test of the second engine, as `load.rs/ports`; an entry of
-/// the list of examples, as `E4`. Of other words nothing is said.
+/// a list of examples, as `E4`. Of other words nothing is said.
 fn is_there(word: &str, sources: &Sources) -> Option<bool> {
-    if let Some(number) = word.strip_prefix('E').and_then(|number| number.parse().ok()) {
-        return Some((1..=examples()).contains(&number));
+    for (letter, file) in EXAMPLES {
+        if let Some(number) = word.strip_prefix(letter).and_then(|number| number.parse().ok()) {
+            return Some((1..=entries(file)).contains(&number));
+        }
     }
     let (first, rest) = word.split_once('/')?;
     if sources.crates.iter().any(|name| name == first) {
@@ -128,12 +134,11 @@ fn is_there(word: &str, sources: &Sources) -> Option<bool> {
         .then(|| sources.files.contains(&file) && read(file).contains(&format!("fn {rest}(")))
 }
 
-/// The number of entries of `Examples.examples`.
-fn examples() -> usize {
-    read("crates/machine/specs/Examples.antt")
-        .lines()
-        .filter(|line| line.trim_start().trim_start_matches("∷ ").starts_with("shows ("))
-        .count()
+/// The number of entries of the list `examples` in a file; each but the first begins a line with `∷`.
+fn entries(file: &str) -> usize {
+    let text = read(file);
+    let list = text.lines().skip_while(|line| *line != "examples =").map(str::trim_start);
+    1 + list.take_while(|line| *line != "∷ []").filter(|line| line.starts_with("∷ ")).count()
 }
 
 /// The file of an edit that is named as `transitions/awake_at_end`.

@@ -56,7 +56,8 @@ fn a_name_of_nothing_is_found() {
         "`decide` in `crates/chain/src/lib.rt`", // it is in another crate
         "edit events/no_such_edit",
         "load.rs/no_such_test",
-        "E99",
+        "E16",
+        "C13",
     ] {
         assert_eq!(missing(name, &sources).len(), 1, "{name}");
     }

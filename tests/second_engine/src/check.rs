@@ -1,6 +1,6 @@
-//! The statements that hold after every list of calls from a new session (demand 3, and those on
-//! shown counts), decided from the bytes of the log slices and the session as written down, and
-//! from nothing else.
+//! The statements that hold after every list of calls from a new session (demand 3, those on shown
+//! counts, and that of choices), decided from the bytes of the log slices and the session as written
+//! down, and from nothing else.
 
 use std::collections::{BTreeMap, HashMap};
 
@@ -11,6 +11,8 @@ const SLEEPING: u8 = 0;
 const OCCURRING: u8 = 1;
 const PAUSED: u8 = 2;
 const MEDIA: u8 = 1;
+const SWITCH: u8 = 2;
+const NONE: u8 = 0;
 
 /// The joined logs of the accepted calls, as a number of lines for each class, id and transition.
 #[derive(Default)]
@@ -120,6 +122,18 @@ pub fn check_anchors(session: &WrittenSession) -> Result<(), String> {
                 "anchor {id} in state {} with media in state {} at clock {}",
                 anchor.state, media.state, media.clock
             ));
+        }
+    }
+    Ok(())
+}
+
+/// A choice is a child of the switch that holds it, and nothing but a switch holds one.
+pub fn check_choices(session: &WrittenSession) -> Result<(), String> {
+    for (id, node) in session.nodes.iter().enumerate().filter(|(_, node)| node.choice != NONE) {
+        let is_switch = id < session.node_count && node.node_type == SWITCH;
+        let child = session.nodes[..session.node_count].get(usize::from(node.choice));
+        if !is_switch || child.is_none_or(|child| usize::from(child.parent) != id) {
+            return Err(format!("node {id} holds the choice {}", node.choice));
         }
     }
     Ok(())

@@ -6,7 +6,7 @@
 
 use crate::call::Call;
 use crate::document::{MOST_ACTIONS, MOST_NODES, MOST_PROPERTIES, NO_ID};
-use crate::generate::{self, Draft, DraftNode, Shape, CONTEXT, MEDIA};
+use crate::generate::{self, Draft, DraftNode, Shape, CONTEXT, MEDIA, SWITCH};
 use crate::random::Random;
 use crate::record::Record;
 use crate::written::WrittenAction;
@@ -68,7 +68,8 @@ impl CountReport {
         for _ in 0..random.between(1, 4) {
             draft.add_rule(random);
         }
-        let nodes = if is_large { random.between(40, MOST_NODES) } else { random.between(3, 9) };
+        let nodes =
+            if is_large { random.between(40, MOST_NODES - 2) } else { random.between(3, 9) };
         let media =
             if is_large { nodes - random.between(1, 8) } else { random.between(1, nodes - 1) };
         let other_media = 1 + (media + random.below(nodes - 2)) % (nodes - 1);
@@ -84,6 +85,12 @@ impl CountReport {
             };
             let parent = random.pick(&draft.ids_of_type(|node_type| node_type != MEDIA));
             draft.push_node(random, &shape, DraftNode { node_type: MEDIA, parent, duration });
+        }
+        // A context in a switch, for owners.
+        let mut parent = random.pick(&draft.ids_of_type(|node_type| node_type != MEDIA));
+        for node_type in [SWITCH, CONTEXT] {
+            draft.push_node(random, &shape, DraftNode { node_type, parent, duration: 0 });
+            parent = draft.nodes.len() as u8 - 1;
         }
         let property = random.below(properties);
         let mut report = CountReport {
@@ -172,7 +179,11 @@ impl CountReport {
         let others = if random.one_in(20) { 7 } else { random.pick(&[0, 0, 0, 0, 1, 2]) };
         let mut actions = (0..others).map(|_| self.other_action(random)).collect();
         insert_anywhere(random, &mut actions, set(self.property, count));
-        self.add_link(random, [OF_ANCHOR, anchor, STARTS], NO_ID, actions);
+        let mut owners = self.draft.ids_of_type(|node_type| node_type == CONTEXT);
+        owners.retain(|&owner| !self.draft.is_in_switch(owner));
+        let (owner, event) = (random.pick(&owners), [OF_ANCHOR, anchor, STARTS]);
+        let link = ReportLink { owner, event, guard: NO_ID, actions };
+        insert_anywhere(random, &mut self.links, link);
     }
 
     /// A link of any kind that does not set the property, at times on the start of an anchor of
@@ -297,10 +308,11 @@ const fn change(
     Change { name, condition, change }
 }
 
-pub static CHANGES: [Change; 11] = [
+pub static CHANGES: [Change; 13] = [
     change(0, "an anchor ends at the next begin", CountReport::touch),
     change(0, "a link on a start sets another property", CountReport::set_other_property),
     change(0, "anchors of another media overlap", CountReport::overlap_in_other_media),
+    change(0, "the owners of other links are in a switch", CountReport::move_other_owners),
     change(1, "the anchors are of another media", CountReport::move_anchors),
     change(2, "two anchors overlap", CountReport::overlap),
     change(3, "an anchor's start does not set the property", CountReport::remove_set),
@@ -309,6 +321,7 @@ pub static CHANGES: [Change; 11] = [
     change(4, "a link sets the property twice", CountReport::set_twice),
     change(5, "a link has a guard", CountReport::add_guard),
     change(6, "another action sets the property", CountReport::add_other_set),
+    change(7, "the owner of a link is in a switch", CountReport::move_owner),
 ];
 
 impl CountReport {
@@ -318,11 +331,11 @@ impl CountReport {
     }
 
     /// Makes some of the conditions fail and gives the number of the first of them, 0 for none. The
-    /// changes by which none fails come first, then those from condition 6 down, so that each finds
+    /// changes by which none fails come first, then those from condition 7 down, so that each finds
     /// the links that it needs and none undoes another.
     pub fn change_some(&mut self, random: &mut Random) -> u8 {
         let mut first_failing = 0;
-        for condition in [0, 6, 5, 4, 3, 2, 1] {
+        for condition in [0, 7, 6, 5, 4, 3, 2, 1] {
             if random.one_in(3) {
                 let of_condition = CHANGES.iter().filter(|change| change.condition == condition);
                 let change = random.pick(&of_condition.collect::<Vec<_>>());
@@ -382,6 +395,15 @@ impl CountReport {
     fn overlap_in_other_media(&mut self, _: &mut Random, anchor: u8) {
         self.add_anchor_like(anchor);
         self.add_anchor_like(anchor);
+    }
+
+    fn move_other_owners(&mut self, random: &mut Random, _: u8) {
+        let owners = self.draft.contexts_in_switches();
+        for place in 0..self.links.len() {
+            if !self.links[place].actions.iter().any(|action| self.sets_property(action)) {
+                self.links[place].owner = random.pick(&owners);
+            }
+        }
     }
 
     /// With the actions left as they are, condition 6 fails too.
@@ -475,6 +497,17 @@ impl CountReport {
         for (other, link) in self.links.iter_mut().enumerate() {
             if on_all || other == place {
                 link.guard = random.below(self.draft.rules) as u8;
+            }
+        }
+    }
+
+    fn move_owner(&mut self, random: &mut Random, anchor: u8) {
+        let owners = self.draft.contexts_in_switches();
+        let place = self.count_link_of(anchor);
+        let on_all = random.one_in(2);
+        for (other, link) in self.links.iter_mut().enumerate() {
+            if on_all || other == place {
+                link.owner = random.pick(&owners);
             }
         }
     }

@@ -3,7 +3,9 @@
 //! "A document shows the counts of media m in property p if m has at least one anchor, and the
 //! anchors of m do not overlap (of any two, one ends at or before the begin of the other), for each
 //! anchor a of m exactly one link on its start (class 2, a, transition 1) sets p, in exactly one of
-//! its actions; it has no guard, no other action of the document sets p."
+//! its actions; it has no guard, no other action of the document sets p." With Req 01, last: "no
+//! switch lies above the owner of a count's link", the link on the start of an anchor of m that sets
+//! p.
 //!
 //! Readings of that definition:
 //! - Its conditions are numbered in its order. Each is asked of the whole document, all anchors
@@ -12,7 +14,8 @@
 //! - Links on an anchor's start that do not set the property may be there in any number, with
 //!   guards too.
 //! - A guard that always holds is a guard all the same.
-//! - Only the tables of the document decide. States, clocks and values do not.
+//! - A switch above the owner counts whatever it has chosen, also if it can choose nothing else.
+//! - Only the tables of the document decide. States, clocks, values and choices do not.
 
 use crate::document::{Anchor, Document, Link};
 use crate::event::{Action, Subject, Transition};
@@ -34,16 +37,19 @@ pub enum Condition {
     NoGuard = 5,
     /// No other action of the document sets the property.
     NoOtherAction = 6,
+    /// No switch lies above the owner of one of these links.
+    OutsideSwitches = 7,
 }
 
 impl Condition {
-    pub const ALL: [Condition; 6] = [
+    pub const ALL: [Condition; 7] = [
         Condition::HasAnchor,
         Condition::NoOverlap,
         Condition::OneLink,
         Condition::OneAction,
         Condition::NoGuard,
         Condition::NoOtherAction,
+        Condition::OutsideSwitches,
     ];
 
     pub fn number(self) -> u8 {
@@ -85,6 +91,9 @@ impl Document {
                 values_set(link, property).is_empty()
                     || anchors.iter().any(|&anchor| is_on_start(link, anchor))
             }),
+            Condition::OutsideSwitches => {
+                links.all(|link| self.switches_above(link.owner).is_empty())
+            }
         }
     }
 

@@ -9,9 +9,10 @@ use crate::document::{
     MOST_PROPERTIES, MOST_RULES,
 };
 use crate::printed::lines_of;
-use crate::probe::Probe;
+use crate::probe::{Heard, Probe, StartSeen};
 use crate::record::Records;
 use crate::refusal::Refusal;
+use crate::written::{WrittenSession, NO_CHOICE};
 
 /// A kind of call, without its arguments.
 #[derive(Debug, Clone, Copy, PartialEq, Eq, PartialOrd, Ord)]
@@ -41,6 +42,74 @@ pub enum Table {
     Ports,
     Links,
     Actions,
+}
+
+/// A choice that somebody wrote down for a node. The first two leave a session whole.
+#[derive(Debug, Clone, Copy, PartialEq, Eq, PartialOrd, Ord)]
+pub enum WrittenChoice {
+    None,
+    Child,
+    ForContext,
+    ForMedia,
+    /// For a place past the table's end.
+    ForNoNode,
+    Itself,
+    Parent,
+    Sibling,
+    Grandchild,
+    OtherNode,
+    /// An id that is not given.
+    NoNode,
+}
+
+impl WrittenChoice {
+    pub const ALL: [WrittenChoice; 11] = [
+        WrittenChoice::None,
+        WrittenChoice::Child,
+        WrittenChoice::ForContext,
+        WrittenChoice::ForMedia,
+        WrittenChoice::ForNoNode,
+        WrittenChoice::Itself,
+        WrittenChoice::Parent,
+        WrittenChoice::Sibling,
+        WrittenChoice::Grandchild,
+        WrittenChoice::OtherNode,
+        WrittenChoice::NoNode,
+    ];
+
+    /// What the session holds for the place. Its tables are those of a document.
+    fn at(session: &WrittenSession, place: usize) -> WrittenChoice {
+        let nodes = &session.nodes[..session.node_count];
+        let choice = session.nodes[place].choice;
+        if choice == NO_CHOICE {
+            return WrittenChoice::None;
+        }
+        let Some(node) = nodes.get(place) else {
+            return WrittenChoice::ForNoNode;
+        };
+        match node.node_type {
+            0 => return WrittenChoice::ForContext,
+            1 => return WrittenChoice::ForMedia,
+            _ => {}
+        }
+        let Some(chosen) = nodes.get(usize::from(choice)) else {
+            return WrittenChoice::NoNode;
+        };
+        let above_chosen = usize::from(chosen.parent);
+        if above_chosen == place {
+            WrittenChoice::Child
+        } else if usize::from(choice) == place {
+            WrittenChoice::Itself
+        } else if choice == node.parent {
+            WrittenChoice::Parent
+        } else if chosen.parent == node.parent {
+            WrittenChoice::Sibling
+        } else if usize::from(nodes[above_chosen].parent) == place {
+            WrittenChoice::Grandchild
+        } else {
+            WrittenChoice::OtherNode
+        }
+    }
 }
 
 /// Something that generated runs must meet. Numbers are those of 01.
@@ -112,6 +181,45 @@ pub enum Feature {
     LogFilled,
     LogWithPartOfAGroup,
     EmptyLogAccepted,
+    /// A link whose line and guard hold and which the nearest switch that has not chosen the path
+    /// holds back, with no choice or with another one.
+    HeldBack {
+        has_choice: bool,
+    },
+    /// One that the nearest switch alone holds back, and outer ones do not.
+    HeldBackByNearestSwitch,
+    /// One that outer switches alone hold back, and the nearest does not.
+    HeldBackByOuterSwitch,
+    /// One of a variant not shown: the switch that holds it back is awake.
+    HeldBackByAwakeSwitch,
+    /// One that would have met the limit.
+    HeldBackAtLimit,
+    /// A firing below so many switches, 2 for more.
+    FiredBelowSwitches {
+        switches: usize,
+    },
+    /// A firing whose owner lies below the chosen child.
+    FiredBelowChosenChild,
+    FiredBelowSleepingSwitch,
+    /// A start of a switch that had no choice and finds a child.
+    ChoiceMade {
+        by_link: bool,
+    },
+    ChoiceChanged {
+        by_link: bool,
+    },
+    ChoiceCleared {
+        by_link: bool,
+    },
+    /// A start of an awake switch that has a choice.
+    ChoiceKeptByAwakeSwitch {
+        by_link: bool,
+    },
+    /// A direct start of a child that is not the choice.
+    ChoiceKeptByStartOfChild {
+        by_link: bool,
+    },
+    ChoiceWritten(WrittenChoice),
     /// A check of counts, with the first condition that fails or 0.
     CountsChecked {
         condition: u8,
@@ -225,6 +333,27 @@ impl Feature {
         for action in 1..=5 {
             expected.push(Feature::CommandWithoutLines { action });
         }
+        expected.extend([
+            Feature::HeldBack { has_choice: false },
+            Feature::HeldBack { has_choice: true },
+            Feature::HeldBackByNearestSwitch,
+            Feature::HeldBackByOuterSwitch,
+            Feature::HeldBackByAwakeSwitch,
+            Feature::HeldBackAtLimit,
+            Feature::FiredBelowSwitches { switches: 1 },
+            Feature::FiredBelowSwitches { switches: 2 },
+            Feature::FiredBelowChosenChild,
+            Feature::FiredBelowSleepingSwitch,
+        ]);
+        for by_link in [false, true] {
+            expected.extend([
+                Feature::ChoiceMade { by_link },
+                Feature::ChoiceChanged { by_link },
+                Feature::ChoiceCleared { by_link },
+                Feature::ChoiceKeptByAwakeSwitch { by_link },
+                Feature::ChoiceKeptByStartOfChild { by_link },
+            ]);
+        }
         for held in [false, true] {
             for comparator in 0..6 {
                 expected.push(Feature::SimpleRule { comparator, held });
@@ -243,10 +372,10 @@ impl Feature {
     /// Not in the list: condition 1 in place of a count, for the media of an anchor has one.
     pub fn expected_of_counts() -> Vec<Feature> {
         let mut expected = vec![Feature::CountGiven];
-        for condition in 0..=6 {
+        for condition in 0..=7 {
             expected.push(Feature::CountsChecked { condition });
         }
-        for condition in 2..=6 {
+        for condition in 2..=7 {
             expected.push(Feature::NoCount { condition });
         }
         for refusal in [10, 13] {
@@ -254,6 +383,11 @@ impl Feature {
             expected.push(Feature::CountRefused { refusal });
         }
         expected
+    }
+
+    /// All that must be met where sessions are changed by somebody.
+    pub fn expected_of_written() -> Vec<Feature> {
+        WrittenChoice::ALL.map(Feature::ChoiceWritten).to_vec()
     }
 }
 
@@ -279,6 +413,11 @@ impl Coverage {
     /// The features expected where counts are looked at whose counter is 0.
     pub fn missing_of_counts(&self) -> Vec<Feature> {
         self.missing_of(Feature::expected_of_counts())
+    }
+
+    /// The features expected where sessions are changed by somebody whose counter is 0.
+    pub fn missing_of_written(&self) -> Vec<Feature> {
+        self.missing_of(Feature::expected_of_written())
     }
 
     fn missing_of(&self, mut expected: Vec<Feature>) -> Vec<Feature> {
@@ -364,7 +503,12 @@ impl Coverage {
             });
         }
         match answer {
-            Ok(firings) => self.meet_accepted(document, call, firings, log),
+            Ok(firings) => {
+                self.meet_accepted(document, call, firings, log);
+                let limit = usize::from(document.limit);
+                probe.heard.iter().for_each(|heard| self.meet_heard(heard, limit));
+                probe.starts.iter().for_each(|&(start, by_link)| self.meet_start(start, by_link));
+            }
             Err(refusal) => {
                 let refusal = refusal.number();
                 self.meet(Feature::CallRefused { call: call.into(), refusal });
@@ -444,6 +588,73 @@ impl Coverage {
             if place > first_fired && !lines[..first_fired].contains(&line) {
                 self.meet(Feature::FiringByFiring);
             }
+        }
+    }
+
+    /// Counts how the switches above the owner let a link fire or held it back.
+    fn meet_heard(&mut self, heard: &Heard, limit: usize) {
+        let switches = &heard.switches;
+        let holding: Vec<_> = switches.iter().filter(|switch| !switch.lets_fire()).collect();
+        let Some(nearest) = switches.first() else {
+            return;
+        };
+        if let Some(first) = holding.first() {
+            self.meet(Feature::HeldBack { has_choice: first.choice.is_some() });
+            if nearest.lets_fire() {
+                self.meet(Feature::HeldBackByOuterSwitch);
+            } else if switches.len() > 1 && holding.len() == 1 {
+                self.meet(Feature::HeldBackByNearestSwitch);
+            }
+            if holding.iter().any(|switch| switch.is_awake) {
+                self.meet(Feature::HeldBackByAwakeSwitch);
+            }
+            if heard.firings == limit {
+                self.meet(Feature::HeldBackAtLimit);
+            }
+            return;
+        }
+        self.meet(Feature::FiredBelowSwitches { switches: switches.len().min(2) });
+        if nearest.child != heard.owner {
+            self.meet(Feature::FiredBelowChosenChild);
+        }
+        if switches.iter().any(|switch| !switch.is_awake) {
+            self.meet(Feature::FiredBelowSleepingSwitch);
+        }
+    }
+
+    fn meet_start(&mut self, start: StartSeen, by_link: bool) {
+        self.meet(match start {
+            StartSeen::OfSleepingSwitch { old: None, new: Some(_) } => {
+                Feature::ChoiceMade { by_link }
+            }
+            StartSeen::OfSleepingSwitch { old: Some(_), new: None } => {
+                Feature::ChoiceCleared { by_link }
+            }
+            StartSeen::OfSleepingSwitch { old, new } if old != new => {
+                Feature::ChoiceChanged { by_link }
+            }
+            StartSeen::OfAwakeSwitch { choice: Some(_) } => {
+                Feature::ChoiceKeptByAwakeSwitch { by_link }
+            }
+            StartSeen::OfChild { child, choice: Some(choice) } if choice != child => {
+                Feature::ChoiceKeptByStartOfChild { by_link }
+            }
+            _ => return,
+        });
+    }
+
+    /// Counts what somebody wrote down in place of one choice, if nothing else was changed. The
+    /// session before is whole.
+    pub fn meet_written(&mut self, before: &WrittenSession, after: &WrittenSession) {
+        let mut places = (0..before.nodes.len())
+            .filter(|&place| before.nodes[place].choice != after.nodes[place].choice);
+        let (Some(place), None) = (places.next(), places.next()) else {
+            return;
+        };
+        let mut with_choice = before.clone();
+        with_choice.nodes[place].choice = after.nodes[place].choice;
+        if with_choice == *after {
+            self.meet(Feature::ChoiceWritten(WrittenChoice::at(after, place)));
         }
     }
 

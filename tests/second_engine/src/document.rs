@@ -374,6 +374,19 @@ impl Document {
         }
     }
 
+    /// The switches above the node, the nearest first, each with its child on the path to the node.
+    pub fn switches_above(&self, node: usize) -> Vec<(usize, usize)> {
+        let mut switches = Vec::new();
+        let mut child = node;
+        while let Some(parent) = self.nodes[child].parent {
+            if self.nodes[parent].kind == NodeKind::Switch {
+                switches.push((parent, child));
+            }
+            child = parent;
+        }
+        switches
+    }
+
     /// Whether the node is the other one or below it.
     pub fn is_within(&self, node: usize, other: usize) -> bool {
         node == other || self.nodes[node].parent.is_some_and(|parent| self.is_within(parent, other))

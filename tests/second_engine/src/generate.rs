@@ -10,11 +10,11 @@ use crate::document::{
 };
 use crate::random::Random;
 use crate::record::Record;
-use crate::written::{WrittenAction, WrittenSession};
+use crate::written::{WrittenAction, WrittenSession, NO_CHOICE};
 
 pub(crate) const CONTEXT: u8 = 0;
 pub(crate) const MEDIA: u8 = 1;
-const SWITCH: u8 = 2;
+pub(crate) const SWITCH: u8 = 2;
 
 /// A generated document: its records, and whether the generator means it to load.
 pub struct Generated {
@@ -23,6 +23,8 @@ pub struct Generated {
     /// How many nodes and properties it has, for the targets of scripts.
     pub nodes: usize,
     pub properties: usize,
+    /// Its switches, which scripts stop and start again.
+    pub switches: Vec<u8>,
 }
 
 /// How many entries a document is to get in each table, as far as there is room.
@@ -40,6 +42,8 @@ pub(crate) struct Shape {
     is_deep: bool,
     /// No switches, so that every node but the first can have a port.
     has_contexts_only: bool,
+    /// Many contexts in switches, and links of theirs that start and stop switches.
+    has_variants: bool,
 }
 
 impl Shape {
@@ -56,6 +60,20 @@ impl Shape {
             actions: random.between(0, 30),
             is_deep: false,
             has_contexts_only: false,
+            has_variants: false,
+        }
+    }
+
+    fn variants(random: &mut Random) -> Self {
+        Shape {
+            limit: random.pick(&[1, 2, 5, 20, 60, 255]),
+            nodes: random.between(5, 20),
+            properties: random.between(1, 2),
+            rules: random.between(3, 6),
+            links: random.between(4, 20),
+            actions: random.between(4, 40),
+            has_variants: true,
+            ..Shape::small(random)
         }
     }
 
@@ -82,6 +100,7 @@ impl Shape {
             actions: MOST_LINKS * MOST_ACTIONS,
             is_deep: random.one_in(2),
             has_contexts_only: random.one_in(3),
+            has_variants: random.one_in(4),
         }
     }
 }
@@ -123,6 +142,11 @@ impl Draft {
             shape.links,
             shape.actions,
         ];
+        if shape.has_variants {
+            // First of all, so that the binds of all nodes have rules.
+            draft.add_rules_of_variants(random, shape);
+            (wanted[2], wanted[3]) = (0, 0);
+        }
         // Records of different tables stand between each other, more nodes to the front.
         for _ in 0..4_000 {
             let table = if random.one_in(3) { 0 } else { random.below(wanted.len()) };
@@ -136,8 +160,8 @@ impl Draft {
                 3 => draft.add_rule(random),
                 4 => draft.add_bind(random),
                 5 => draft.add_port(random),
-                6 => draft.add_link(random),
-                _ => draft.add_action(random),
+                6 => draft.add_link_of_shape(random, shape),
+                _ => draft.add_action_of_shape(random, shape),
             };
             if is_added {
                 wanted[table] -= 1;
@@ -169,14 +193,17 @@ impl Draft {
         } else {
             let composites = self.ids_of_type(|node_type| node_type != MEDIA);
             let latest = composites[composites.len() - 1];
-            let parent = match shape.is_deep && !random.one_in(8) {
+            let mut parent = match shape.is_deep && !random.one_in(8) {
                 true => latest,
                 false => random.pick(&composites),
             };
-            let node_type = match (shape.is_deep, random.below(10)) {
+            let mut node_type = match (shape.is_deep, random.below(10)) {
                 (true, 0..=6) | (false, 0..=2) => random.pick(&[CONTEXT, SWITCH]),
                 _ => MEDIA,
             };
+            if shape.has_variants && !random.one_in(4) {
+                (node_type, parent) = self.node_of_variants(random, parent);
+            }
             let node_type = match (shape.has_contexts_only, node_type) {
                 (true, SWITCH) => CONTEXT,
                 _ => node_type,
@@ -189,6 +216,18 @@ impl Draft {
         };
         self.push_node(random, shape, node);
         true
+    }
+
+    /// The type and parent of a context in a switch, of a media in such a context, or of a further
+    /// switch in the given parent.
+    fn node_of_variants(&self, random: &mut Random, parent: u8) -> (u8, u8) {
+        let switches = self.ids_of_type(|node_type| node_type == SWITCH);
+        let in_switches = self.contexts_in_switches();
+        match random.below(4) {
+            0 | 1 if !switches.is_empty() => (CONTEXT, random.pick(&switches)),
+            2 if !in_switches.is_empty() => (MEDIA, random.pick(&in_switches)),
+            _ => (SWITCH, parent),
+        }
     }
 
     pub(crate) fn push_node(&mut self, random: &mut Random, shape: &Shape, node: DraftNode) {
@@ -256,6 +295,17 @@ impl Draft {
         true
     }
 
+    /// All properties and rules of the shape, three of the rules for one value alone.
+    fn add_rules_of_variants(&mut self, random: &mut Random, shape: &Shape) {
+        while self.properties < shape.properties && self.add_property(random) {}
+        for value in [-1, 0, 1] {
+            let property = random.below(self.properties) as u8;
+            self.records.push(Record::Rule { property, comparator: 0, value });
+            self.rules += 1;
+        }
+        while self.rules < shape.rules && self.add_rule(random) {}
+    }
+
     fn add_bind(&mut self, random: &mut Random) -> bool {
         let Some((switch, child)) = random.pick_any(&self.pairs_under(SWITCH)) else {
             return false;
@@ -271,7 +321,7 @@ impl Draft {
     /// Adds a bind with a rule, or as the default if the switch has none yet.
     fn bind(&mut self, random: &mut Random, switch: u8, child: u8) {
         let may_be_default = !self.switches_with_default.contains(&switch);
-        let rule = if may_be_default && (self.rules == 0 || random.one_in(2)) {
+        let rule = if may_be_default && (self.rules == 0 || random.one_in(3)) {
             self.switches_with_default.push(switch);
             NO_ID
         } else if self.rules > 0 {
@@ -329,6 +379,41 @@ impl Draft {
         true
     }
 
+    /// With variants most links are by a key, and their owners are often in a switch.
+    fn add_link_of_shape(&mut self, random: &mut Random, shape: &Shape) -> bool {
+        let in_switches = self.contexts_in_switches();
+        if !shape.has_variants || in_switches.is_empty() || random.one_in(3) {
+            return self.add_link(random);
+        }
+        let (class, subject, transition) = match random.below(4) {
+            0 => (1, random.below(self.nodes.len()) as u8, random.pick(&[1, 2])),
+            _ => (4, random.below(3) as u8, 1),
+        };
+        let owner = match random.one_in(4) {
+            true => 0,
+            false => random.pick(&in_switches),
+        };
+        let guard = if random.one_in(3) { self.rule_or_none(random) } else { NO_ID };
+        self.links += 1;
+        self.actions_of_latest_link = 0;
+        self.records.push(Record::Link { owner, class, subject, transition, guard });
+        true
+    }
+
+    pub(crate) fn contexts_in_switches(&self) -> Vec<u8> {
+        let mut contexts = self.ids_of_type(|node_type| node_type == CONTEXT);
+        contexts.retain(|&context| self.is_in_switch(context));
+        contexts
+    }
+
+    pub(crate) fn is_in_switch(&self, node: u8) -> bool {
+        let parent = self.nodes[usize::from(node)].parent;
+        let Some(above) = self.nodes.get(usize::from(parent)) else {
+            return false;
+        };
+        above.node_type == SWITCH || self.is_in_switch(parent)
+    }
+
     pub(crate) fn rule_or_none(&self, random: &mut Random) -> u8 {
         match self.rules > 0 && random.one_in(2) {
             true => random.below(self.rules) as u8,
@@ -349,6 +434,29 @@ impl Draft {
         };
         self.actions_of_latest_link += 1;
         self.records.push(record);
+        true
+    }
+
+    /// With variants many actions start or stop a switch or start a child of one, or stop a switch,
+    /// set a property and start the switch.
+    fn add_action_of_shape(&mut self, random: &mut Random, shape: &Shape) -> bool {
+        let pairs = self.pairs_under(SWITCH);
+        let has_room = self.links > 0 && self.actions_of_latest_link + 3 <= MOST_ACTIONS;
+        if !shape.has_variants || pairs.is_empty() || !has_room || random.one_in(2) {
+            return self.add_action(random);
+        }
+        let (switch, child) = random.pick(&pairs);
+        let (property, value) = (random.below(self.properties) as u8, random.value());
+        let actions: &[(u8, u8, i32)] = match random.below(6) {
+            0 => &[(1, switch, 0)],
+            1 => &[(2, switch, 0)],
+            2 => &[(1, child, 0)],
+            _ => &[(2, switch, 0), (6, property, value), (1, switch, 0)],
+        };
+        for &(action, target, value) in actions {
+            self.records.push(Record::Action { action, target, value });
+        }
+        self.actions_of_latest_link += actions.len();
         true
     }
 
@@ -442,7 +550,8 @@ impl Draft {
 /// A document of any shape, about one in four of them damaged or with one entry too many.
 pub fn document(random: &mut Random) -> Generated {
     let shape = match random.below(20) {
-        0..=13 => Shape::small(random),
+        0..=8 => Shape::small(random),
+        9..=13 => Shape::variants(random),
         14..=17 => Shape::deep(random),
         _ => Shape::full(random),
     };
@@ -460,7 +569,9 @@ pub fn document(random: &mut Random) -> Generated {
     } else {
         draft.records.iter().flat_map(Record::bytes).collect()
     };
-    Generated { bytes, is_valid, nodes: draft.nodes.len(), properties: draft.properties }
+    let switches = draft.ids_of_type(|node_type| node_type == SWITCH);
+    let (nodes, properties) = (draft.nodes.len(), draft.properties);
+    Generated { bytes, is_valid, nodes, properties, switches }
 }
 
 /// The document's bytes with some damage, which may leave them valid.
@@ -533,10 +644,36 @@ pub fn call(random: &mut Random, nodes: usize, properties: usize) -> Call {
     }
 }
 
-/// A list of calls that begins with a start of node 0 and resumes much of what it pauses.
+/// Stops a switch, sets a property and starts the switch, at times only some of these.
+fn calls_on_switch(random: &mut Random, switch: u8, properties: usize) -> Vec<Call> {
+    let on_switch = |action: u8| Call::Command { action, target: switch, value: 0 };
+    let mut calls = vec![on_switch(random.pick(&[2, 2, 3]))];
+    if properties > 0 {
+        let target = random.below(properties) as u8;
+        calls.push(Call::Command { action: 6, target, value: random.value() });
+    }
+    calls.push(on_switch(1));
+    if random.one_in(2) {
+        calls.remove(random.below(calls.len()));
+    }
+    calls.push(Call::Key { code: random.below(3) as u8 });
+    calls
+}
+
+/// A list of calls that begins with a start of node 0, at times after a key, resumes much of what it
+/// pauses, and starts switches again.
 pub fn calls(random: &mut Random, document: &Generated, most: usize) -> Vec<Call> {
     let mut calls = vec![Call::Command { action: 1, target: 0, value: 0 }];
+    if random.one_in(4) {
+        calls.insert(0, Call::Key { code: random.below(3) as u8 });
+    }
     for _ in 0..random.below(most) {
+        if random.one_in(4) {
+            if let Some(switch) = random.pick_any(&document.switches) {
+                calls.extend(calls_on_switch(random, switch, document.properties));
+                continue;
+            }
+        }
         let call = call(random, document.nodes, document.properties);
         calls.push(call);
         if let Call::Command { action: 4, target, value: 0 } = call {
@@ -597,7 +734,7 @@ pub fn change_field(random: &mut Random, session: &mut WrittenSession) {
     let slot = place(session.links[link].action_count, MOST_ACTIONS);
     let count = random.pick(&[0, 1, 2, 8, 9, 32, 33, 64, 65, 128, 129, 255]);
     let action: &mut WrittenAction = &mut session.links[link].actions[slot];
-    match random.below(44) {
+    match random.below(48) {
         0 => session.limit = byte,
         1 => session.node_count = count,
         2 => session.anchor_count = count,
@@ -638,6 +775,35 @@ pub fn change_field(random: &mut Random, session: &mut WrittenSession) {
         40 => session.links[link].guard = byte,
         41 => session.links[link].action_count = count,
         42 => (action.action, action.target) = (byte, byte),
-        _ => action.value = value,
+        43 => action.value = value,
+        _ => change_choice(random, session),
     }
+}
+
+/// Writes another choice for a node of any type or for none: none, a child, a node near it that is
+/// no child, or no node.
+pub fn change_choice(random: &mut Random, session: &mut WrittenSession) {
+    let nodes = &session.nodes[..session.node_count.min(MOST_NODES)];
+    let given = nodes.len() as u8;
+    let ids_with =
+        |is_right: &dyn Fn(u8) -> bool| (0..given).filter(|&id| is_right(id)).collect::<Vec<u8>>();
+    let parent_of = |id: u8| nodes[usize::from(id)].parent;
+    let switches = ids_with(&|id| nodes[usize::from(id)].node_type == SWITCH);
+    let places = random.pick(&[usize::from(given).max(1), MOST_NODES]);
+    let place = match random.pick_any(&switches) {
+        Some(switch) if !random.one_in(3) => switch,
+        _ => random.below(places) as u8,
+    };
+    let parent = if place < given { parent_of(place) } else { NO_ID };
+    let children = ids_with(&|id| parent_of(id) == place);
+    let near = match random.below(6) {
+        0 => children,
+        1 => ids_with(&|id| id != place && parent_of(id) == parent),
+        2 => ids_with(&|id| children.contains(&parent_of(id))),
+        3 => vec![place, parent],
+        4 => vec![given, MOST_NODES as u8, NO_ID],
+        _ => vec![NO_CHOICE],
+    };
+    let any = random.likely_byte();
+    session.nodes[usize::from(place)].choice = random.pick_any(&near).unwrap_or(any);
 }

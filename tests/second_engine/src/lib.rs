@@ -1,6 +1,6 @@
 //! Second engine of the Humulusbit report player: the NCL event machine and link engine of
-//! `01-scope.md`, called 01 in the comments, written apart from the first engine so that the
-//! two can be compared.
+//! `01-scope.md`, called 01 in the comments, with Req 01 of `02-change-requests.md`, written apart
+//! from the first engine so that the two can be compared.
 
 pub mod call;
 pub mod check;

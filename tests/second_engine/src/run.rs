@@ -6,6 +6,19 @@
 //! - A sleeping composite cannot become paused, for no action takes a media from sleeping to
 //!   paused; 01 names no line for it.
 //! - A firing is counted when its line has been logged.
+//!
+//! Readings of Req 01:
+//! - The switches above an owner are those among its parent, that one's parent and so on. A link
+//!   whose owner has none above it fires as before.
+//! - The condition is asked where the guard is, on the choices of that moment: what an earlier
+//!   link of the same line has chosen counts, and not the choice of when the line was logged.
+//! - Every start of a sleeping switch is a start of that switch: by a command, by a link, by a port
+//!   of the context above it and by a bind of the switch above it.
+//! - A default is chosen by a start alone, as the other children are.
+//! - A child is chosen when the start finds it, also if its own start then wakes nothing.
+//! - Nothing but a start changes a choice, so that it outlives stop, abort and natural end: the
+//!   links below a sleeping switch fire by the choice that it had.
+//! - A link that is held back does not fire. It logs nothing and does not meet refusal 11.
 
 use std::collections::VecDeque;
 use std::rc::Rc;
@@ -13,7 +26,7 @@ use std::rc::Rc;
 use crate::call::Call;
 use crate::document::{Document, NodeKind};
 use crate::event::{Action, Line, NodeAction, State, Subject, Transition};
-use crate::probe::{Fault, Probe};
+use crate::probe::{Fault, Heard, Probe, StartSeen, SwitchAbove};
 use crate::refusal::{ensure, Refusal};
 use crate::session::Session;
 
@@ -31,6 +44,8 @@ pub struct Run<'a> {
     probe: &'a mut Probe,
     /// The properties' values at each line, kept for `Fault::GuardReadWhenLogged` alone.
     values_when_logged: Vec<Vec<i32>>,
+    /// The nodes' choices at each line, kept for `Fault::ChoiceReadWhenLogged` alone.
+    choices_when_logged: Vec<Vec<Option<usize>>>,
 }
 
 /// What an accepted call leaves.
@@ -52,6 +67,7 @@ impl<'a> Run<'a> {
             firings: 0,
             probe,
             values_when_logged: Vec::new(),
+            choices_when_logged: Vec::new(),
         }
     }
 
@@ -74,7 +90,10 @@ impl<'a> Run<'a> {
         let mut aborted = None;
         match action {
             Action::Set { property, value } => self.set(property, value)?,
-            Action::OnNode { action: NodeAction::Start, node } => self.start(node)?,
+            Action::OnNode { action: NodeAction::Start, node } => {
+                self.leave_choice_above(node);
+                self.start(node)?;
+            }
             Action::OnNode { action, node } => {
                 aborted = (action == NodeAction::Abort).then_some(node);
                 for media in self.document.media_of(node) {
@@ -98,6 +117,7 @@ impl<'a> Run<'a> {
 
     fn start(&mut self, node: usize) -> Result<(), Refusal> {
         if self.session.nodes[node].state.is_awake() {
+            self.leave_choice_of(node);
             return Ok(());
         }
         let document = Rc::clone(&self.document);
@@ -108,15 +128,53 @@ impl<'a> Run<'a> {
                 .iter()
                 .filter(|port| port.context == node)
                 .try_for_each(|port| self.start(port.child)),
-            NodeKind::Switch => match self.chosen_child(node) {
+            NodeKind::Switch => match self.choose(node) {
                 Some(child) => self.start(child),
                 None => Ok(()),
             },
         }
     }
 
+    /// The child that a start of the switch finds, which the session remembers.
+    fn choose(&mut self, switch: usize) -> Option<usize> {
+        let (old, new) = (self.session.nodes[switch].choice, self.child_found(switch));
+        self.see_start(StartSeen::OfSleepingSwitch { old, new });
+        if new.is_some() || !self.has(Fault::EmptyStartKeepsChoice) {
+            self.session.nodes[switch].choice = new;
+        }
+        new
+    }
+
+    /// A start of an awake switch changes nothing, save with a fault.
+    fn leave_choice_of(&mut self, node: usize) {
+        if self.document.nodes[node].kind == NodeKind::Switch {
+            self.see_start(StartSeen::OfAwakeSwitch { choice: self.session.nodes[node].choice });
+            if self.has(Fault::AwakeSwitchChooses) {
+                self.choose(node);
+            }
+        }
+    }
+
+    /// A direct start of a switch's child leaves the switch's choice, save with a fault.
+    fn leave_choice_above(&mut self, child: usize) {
+        let Some(parent) = self.document.nodes[child].parent else {
+            return;
+        };
+        if self.document.nodes[parent].kind == NodeKind::Switch {
+            let choice = self.session.nodes[parent].choice;
+            self.see_start(StartSeen::OfChild { child, choice });
+            if self.has(Fault::ChildStartChooses) {
+                self.session.nodes[parent].choice = Some(child);
+            }
+        }
+    }
+
+    fn see_start(&mut self, start: StartSeen) {
+        self.probe.starts.push((start, self.firings > 0));
+    }
+
     /// The child of the switch's first bind whose rule holds, else of its default.
-    fn chosen_child(&mut self, switch: usize) -> Option<usize> {
+    fn child_found(&mut self, switch: usize) -> Option<usize> {
         let document = Rc::clone(&self.document);
         let mut default = None;
         for bind in document.binds.iter().filter(|bind| bind.switch == switch) {
@@ -212,6 +270,9 @@ impl<'a> Run<'a> {
                     }
                 }
             };
+            if new == State::Sleeping && self.has(Fault::SleepClearsChoice) {
+                self.session.nodes[node].choice = None;
+            }
             self.enter_node(node, new, transition)?;
         }
         Ok(())
@@ -264,7 +325,8 @@ impl<'a> Run<'a> {
             self.taken = place;
             let line = self.lines[place];
             for (id, link) in document.links.iter().enumerate() {
-                if link.matches(line) && self.guard_holds(link.guard) {
+                if link.matches(line) && self.guard_holds(link.guard) && self.is_chosen(link.owner)
+                {
                     ensure(self.firings < usize::from(document.limit), Refusal::FiringLimit)?;
                     self.push_line(Line::Fired { link: id })?;
                     self.firings += 1;
@@ -298,6 +360,39 @@ impl<'a> Run<'a> {
         self.decide(rule, &values)
     }
 
+    /// Whether every switch above the owner has chosen last its child on the path to the owner.
+    fn is_chosen(&mut self, owner: usize) -> bool {
+        let mut switches = self.document.switches_above(owner);
+        let above = |&(switch, child): &(usize, usize)| {
+            let event = self.session.nodes[switch];
+            SwitchAbove { child, choice: event.choice, is_awake: event.state.is_awake() }
+        };
+        let seen = switches.iter().map(above).collect();
+        self.probe.heard.push(Heard { owner, switches: seen, firings: self.firings });
+        match self.probe.fault {
+            Some(Fault::OwnerWithoutEffect) => switches.clear(),
+            Some(Fault::NearestSwitchOnly) => switches.truncate(1),
+            _ => {}
+        }
+        switches.into_iter().all(|(switch, child)| self.choice_of(switch) == Some(child))
+    }
+
+    /// The child that a start of the switch chose last.
+    fn choice_of(&self, switch: usize) -> Option<usize> {
+        let choice = self.session.nodes[switch].choice;
+        match self.probe.fault {
+            Some(Fault::ChoiceReadWhenLogged) => self.choices_when_logged[self.taken][switch],
+            Some(Fault::DefaultChosenWithoutStart) => choice.or(self.default_of(switch)),
+            _ => choice,
+        }
+    }
+
+    fn default_of(&self, switch: usize) -> Option<usize> {
+        let mut binds = self.document.binds.iter();
+        let default = binds.find(|bind| bind.switch == switch && bind.rule.is_none());
+        default.map(|bind| bind.child)
+    }
+
     fn decide(&mut self, rule: usize, values: &[i32]) -> bool {
         let holds = self.document.holds(rule, values);
         self.probe.decided.push((rule, holds));
@@ -314,6 +409,10 @@ impl<'a> Run<'a> {
         self.lines.push(line);
         if self.has(Fault::GuardReadWhenLogged) {
             self.values_when_logged.push(self.session.values());
+        }
+        if self.has(Fault::ChoiceReadWhenLogged) {
+            let choices = self.session.nodes.iter().map(|node| node.choice).collect();
+            self.choices_when_logged.push(choices);
         }
         Ok(())
     }

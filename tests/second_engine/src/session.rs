@@ -15,6 +15,8 @@ pub struct NodeEvent {
     pub state: State,
     pub clock: u16,
     pub count: u32,
+    /// The child that a start of this switch chose last.
+    pub choice: Option<usize>,
 }
 
 #[derive(Debug, Clone, Copy, PartialEq, Eq)]
@@ -53,7 +55,7 @@ pub fn load(bytes: &[u8]) -> Result<Session, Refusal> {
 
 impl Session {
     fn new(document: Document) -> Self {
-        let sleeping = NodeEvent { state: State::Sleeping, clock: 0, count: 0 };
+        let sleeping = NodeEvent { state: State::Sleeping, clock: 0, count: 0, choice: None };
         Session {
             nodes: vec![sleeping; document.nodes.len()],
             anchors: vec![AnchorEvent { state: State::Sleeping, count: 0 }; document.anchors.len()],

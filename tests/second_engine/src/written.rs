@@ -9,6 +9,12 @@
 //! - A rule's entry has a kind, 4 simple or 5 composite, and the fields of both; those that its
 //!   kind does not have must be 0, as for an entry past the end.
 //! - An occurrence count and a property's value may be anything.
+//!
+//! Readings of Req 01:
+//! - A choice is the id of a node; 0 is none, for node 0 is nobody's child.
+//! - Every child of a switch may be its choice, also one without a bind, whichever of them are
+//!   awake and whatever the rules would choose now.
+//! - A node that is not given is no switch, so what is held for it is 0.
 
 use std::rc::Rc;
 
@@ -23,6 +29,9 @@ use crate::record::Record;
 use crate::refusal::{ensure, Refusal};
 use crate::session::{load, AnchorEvent, NodeEvent, PropertyEvent, Reading, Session};
 
+/// The choice of a switch that has none, and of every other node.
+pub const NO_CHOICE: u8 = 0;
+
 #[derive(Debug, Clone, Copy, PartialEq, Eq, Default)]
 pub struct WrittenNode {
     pub node_type: u8,
@@ -31,6 +40,7 @@ pub struct WrittenNode {
     pub state: u8,
     pub clock: u16,
     pub count: u32,
+    pub choice: u8,
 }
 
 #[derive(Debug, Clone, Copy, PartialEq, Eq, Default)]
@@ -272,7 +282,8 @@ impl TryFrom<&WrittenSession> for Session {
             .iter()
             .map(|node| {
                 let WrittenNode { clock, count, .. } = *node;
-                State::read(node.state).map(|state| NodeEvent { state, clock, count })
+                let choice = (node.choice != NO_CHOICE).then_some(usize::from(node.choice));
+                State::read(node.state).map(|state| NodeEvent { state, clock, count, choice })
             })
             .collect();
         let anchors: Option<Vec<AnchorEvent>> = written.anchors[..written.anchor_count]
@@ -293,6 +304,7 @@ impl TryFrom<&WrittenSession> for Session {
             properties,
         };
         ensure(nodes_agree(&session) && anchors_agree(&session), broken)?;
+        ensure(choices_agree(&session), broken)?;
         Ok(session)
     }
 }
@@ -321,6 +333,14 @@ fn anchors_agree(session: &Session) -> bool {
     })
 }
 
+/// Whether each choice is held for a switch and is a child of it.
+fn choices_agree(session: &Session) -> bool {
+    session.document.nodes.iter().zip(&session.nodes).all(|(node, event)| match event.choice {
+        None => true,
+        Some(choice) => node.kind == NodeKind::Switch && node.children.contains(&choice),
+    })
+}
+
 impl From<&Session> for WrittenSession {
     fn from(session: &Session) -> WrittenSession {
         let document = session.document();
@@ -346,6 +366,7 @@ impl From<&Session> for WrittenSession {
                 state: event.state as u8,
                 clock: event.clock,
                 count: event.count,
+                choice: event.choice.map_or(NO_CHOICE, |choice| choice as u8),
             };
         }
         for (id, (anchor, event)) in document.anchors.iter().zip(&session.anchors).enumerate() {

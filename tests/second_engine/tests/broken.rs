@@ -1,4 +1,4 @@
-//! Broken sessions, clause by clause, on the session as written down.
+//! Broken sessions, clause by clause of 01 and of Req 01, on the session as written down.
 
 mod common;
 
@@ -58,6 +58,10 @@ fn assert_whole(change: impl Fn(&mut WrittenSession)) {
 fn sessions_of_runs_are_whole() {
     assert_whole(|_| {});
     for calls in ["", "start 0", "start 0; tick; tick; tick; tick", "start 4; pause 0; tick"] {
+        assert!(!written_after(DOCUMENT, calls).is_broken());
+    }
+    // A choice, changed and cleared.
+    for calls in ["set 0 9; start 2; stop 2; set 0 5; start 2", "start 2; stop 0"] {
         assert!(!written_after(DOCUMENT, calls).is_broken());
     }
 }
@@ -187,6 +191,7 @@ fn actions_against_load_rules() {
 fn entries_past_the_end() {
     assert_broken(|session| session.nodes[6].count = 1);
     assert_broken(|session| session.nodes[6].state = 1);
+    assert_broken(|session| session.nodes[6].choice = 1);
     assert_broken(|session| session.nodes[63] = WrittenNode { parent: 255, ..Default::default() });
     assert_broken(|session| session.anchors[3].count = 1);
     assert_broken(|session| session.anchors[127] = WrittenAnchor { end: 1, ..Default::default() });
@@ -294,6 +299,100 @@ fn clocks() {
             session.anchors[2].state = 0;
         });
     }
+}
+
+/// Node 0 with switch 1 and media 6; in switch 1 context 2 and media 3, which has no bind; in
+/// context 2 switch 4 with media 5. Switch 1 has chosen 2 and switch 4 has chosen 5, which is awake.
+fn with_choices() -> WrittenSession {
+    let text = "head 9; context 255; switch 0; context 1; media 1 0; switch 2; media 4 0; \
+                media 0 0; port 0 1; port 2 4; default 1 2; default 4 5";
+    let session = written_after(text, "start 0");
+    let choices: Vec<u8> = session.nodes[..7].iter().map(|node| node.choice).collect();
+    assert_eq!(choices, [0, 2, 0, 0, 5, 0, 0]);
+    session
+}
+
+fn with_choice(place: usize, choice: u8) -> impl Fn(&mut WrittenSession) {
+    move |session| {
+        *session = with_choices();
+        session.nodes[place].choice = choice;
+    }
+}
+
+// "a choice that is no child of its switch": a node further below, beside it, itself, above it, or
+// no node.
+#[test]
+fn choices_that_are_no_child() {
+    for choice in [4, 5, 6, 1] {
+        assert_broken(with_choice(1, choice));
+    }
+    for choice in [2, 1, 4, 3, 6] {
+        assert_broken(with_choice(4, choice));
+    }
+    for choice in (7..=64).chain([127, 128, 254, 255]) {
+        assert_broken(with_choice(1, choice));
+        assert_broken(with_choice(4, choice));
+    }
+}
+
+// "or is held for a node that is no switch": a context, also its own child, a media, no node. What
+// is held for them is 0 in every session of a run.
+#[test]
+fn choices_for_no_switch() {
+    for place in [0, 2, 3, 5, 6, 7, 8, 63] {
+        assert_whole(with_choice(place, 0));
+        for choice in (1..=7).chain([63, 64, 255]) {
+            assert_broken(with_choice(place, choice));
+        }
+    }
+}
+
+// No choice and every child are whole, whatever is awake and bound.
+#[test]
+fn choices_that_are_whole() {
+    for choice in [0, 2, 3] {
+        assert_whole(with_choice(1, choice));
+    }
+    for choice in [0, 5] {
+        assert_whole(with_choice(4, choice));
+    }
+    let sleeping = |choice: u8| {
+        move |session: &mut WrittenSession| {
+            *session = with_choices();
+            session.command(2, 0, 0, &mut [0; 64]).unwrap();
+            session.nodes[1].choice = choice;
+        }
+    };
+    [0, 2, 3].into_iter().for_each(|choice| assert_whole(sleeping(choice)));
+    [1, 4, 7].into_iter().for_each(|choice| assert_broken(sleeping(choice)));
+}
+
+// A table that is changed makes a choice broken, or a broken one whole.
+#[test]
+fn choices_with_changed_tables() {
+    let moved = |choice: u8, parent: u8| {
+        move |session: &mut WrittenSession| {
+            *session = with_choices();
+            session.nodes[1].choice = choice;
+            session.nodes[3].parent = parent;
+        }
+    };
+    for parent in [0, 2] {
+        assert_whole(moved(2, parent));
+        assert_broken(moved(3, parent));
+    }
+    assert_whole(moved(3, 1));
+    let retyped = |node_type: u8, choice: u8| {
+        move |session: &mut WrittenSession| {
+            let text = "head 9; context 255; switch 0; media 1 0";
+            *session = written_after(text, "");
+            session.nodes[1].node_type = node_type;
+            session.nodes[1].choice = choice;
+        }
+    };
+    assert_whole(retyped(2, 2));
+    assert_whole(retyped(0, 0));
+    assert_broken(retyped(0, 2));
 }
 
 // Counts and values may be anything.

@@ -205,16 +205,18 @@ fn other_actions() {
 // All fail from some condition on; with one after the other kept, the next one is named.
 #[test]
 fn conditions_in_their_order() {
-    let start = "head 9; context 255; media 0 0; property 0; rule 0 eq 0;";
+    let start = "head 9; context 255; media 0 0; property 0; rule 0 eq 0; switch 0; context 2;";
     let overlap = "anchor 1 0 2; anchor 1 1 3; anchor 1 3 4;";
     let apart = "anchor 1 0 1; anchor 1 1 3; anchor 1 3 4;";
-    // The third anchor has no link, the second's sets twice, the first's has a guard.
+    // The third anchor has no link, or one in a switch, the second's sets twice, the first's has a
+    // guard.
     let links = "link anchor 0 starts guard 0; set 0 1; link anchor 1 starts; set 0 2; set 0 2; \
                  link key 0; set 0 9;";
-    let third = "link anchor 2 starts; set 0 3;";
+    let third = "link in 3 anchor 2 starts; set 0 3;";
     let once = links.replacen("set 0 2; set 0 2;", "set 0 2;", 1);
     let unguarded = once.replacen(" guard 0", "", 1);
     let alone = unguarded.replacen("link key 0; set 0 9;", "", 1);
+    let outside = third.replacen("link in 3", "link", 1);
     let texts = [
         format!("{start} link key 0; set 0 9;"),
         format!("{start} {overlap} {links}"),
@@ -223,8 +225,66 @@ fn conditions_in_their_order() {
         format!("{start} {apart} {once} {third}"),
         format!("{start} {apart} {unguarded} {third}"),
         format!("{start} {apart} {alone} {third}"),
+        format!("{start} {apart} {alone} {outside}"),
     ];
-    assert_eq!(texts.map(|text| check(&text)), [1, 2, 3, 4, 5, 6, 0]);
+    assert_eq!(texts.map(|text| check(&text)), [1, 2, 3, 4, 5, 6, 7, 0]);
+}
+
+/// Switch 4 with context 5, in it context 6, in it switch 7 with context 8; context 9 in node 0.
+const SWITCHES: &str =
+    "switch 0; context 4; context 5; switch 6; context 7; context 0; default 4 5; default 7 8;";
+
+// "no switch lies above the owner of a count's link": one or more, near or far, of all links.
+#[test]
+fn owners_in_switches() {
+    for (one, other, condition) in [
+        (0, 0, 0),
+        (9, 0, 0),
+        (9, 9, 0),
+        (5, 0, 7),
+        (0, 5, 7),
+        (6, 0, 7),
+        (9, 6, 7),
+        (0, 8, 7),
+        (8, 5, 7),
+    ] {
+        let links = format!(
+            "{SWITCHES} link in {one} anchor 0 starts; set 0 130; \
+             link in {other} anchor 1 starts; set 0 120;"
+        );
+        let text = film(&links);
+        assert_eq!(check(&text), condition, "{one} {other}");
+        let counts = match condition {
+            0 => [Ok(130), Ok(120)],
+            _ => [Err(7), Err(7)],
+        };
+        assert_eq!([count_of(&text, 0, 0), count_of(&text, 1, 0)], counts.map(Ok), "{one} {other}");
+    }
+}
+
+// Other links may be in switches, on the starts of the anchors too, and so may the media.
+#[test]
+fn other_links_and_the_media_in_switches() {
+    for more in
+        ["link in 5 anchor 0 starts; set 1 1", "link in 8 key 0; start 1", "link in 6 key 0"]
+    {
+        assert_eq!(check(&film_with_counts(&format!("{SWITCHES} {more}"))), 0, "{more}");
+    }
+    let text = "head 9; context 255; media 0 0; property 0; switch 0; context 2; media 3 0; \
+                anchor 4 0 1; link anchor 0 starts; set 0 1";
+    assert_eq!(check_of(text, 4, 0), Ok(0));
+}
+
+// A choice does not decide: the only child, chosen.
+#[test]
+fn chosen_owner_is_in_a_switch_all_the_same() {
+    let links = "link in 5 anchor 0 starts; set 0 130; link anchor 1 starts; set 0 120";
+    let text = film(&format!("{SWITCHES} {links}"));
+    for calls in ["", "start 4", "start 0; start 4; tick; tick"] {
+        let session = session_after(&text, calls);
+        assert_eq!(session.check_counts(1, 0), Ok(Err(Condition::OutsideSwitches)));
+        assert_eq!(session.count_of(1, 0), Ok(Err(Condition::OutsideSwitches)));
+    }
 }
 
 /// Media 1 with anchors of one tick each, and a link for each of the first 64, the last one first.
@@ -618,6 +678,19 @@ fn another_action_changes_a_count() {
     assert_eq!(statements(&text, "key 0"), (6, false, true));
 }
 
+// Without condition 7: the switch above the second anchor's owner has not been started, or has
+// chosen its other child. Once it has chosen the owner, both statements hold.
+#[test]
+fn a_switch_leaves_the_count_before() {
+    let links = "switch 0; context 2; context 2; property 0; rule 1 eq 1; bind 2 4 1; \
+                 default 2 3; link anchor 0 starts; set 0 10; \
+                 link in 3 anchor 1 starts; set 0 20";
+    let text = film_of_two(links);
+    assert_eq!(statements(&text, "start 1; tick; tick"), (7, false, false));
+    assert_eq!(statements(&text, "set 1 1; start 2; start 1; tick; tick"), (7, false, false));
+    assert_eq!(statements(&text, "start 2; start 1; tick; tick"), (7, true, true));
+}
+
 // An accepted command that sets the property; a refused one changes nothing.
 #[test]
 fn a_set_command_changes_a_count() {
@@ -783,7 +856,7 @@ fn each_damage_fails_its_condition() {
 
 #[test]
 fn of_several_changes_the_first_condition_is_named() {
-    let mut met = [0; 7];
+    let mut met = [0; 8];
     for seed in 0..6_000 {
         let mut random = Random::new(seed);
         let mut report = CountReport::new(&mut random);

@@ -1,7 +1,7 @@
 //! Thousands of generated documents and lists of calls with fixed seeds.
 
 use second_engine::call::Call;
-use second_engine::check::{check_anchors, check_composites, History};
+use second_engine::check::{check_anchors, check_choices, check_composites, History};
 use second_engine::coverage::{Coverage, Feature};
 use second_engine::generate::{self, Generated};
 use second_engine::printed::{lines_of, PRINTED_RUN_LOG_LENGTH};
@@ -63,6 +63,7 @@ fn run_document(random: &mut Random, document: &Generated, coverage: &mut Covera
             history.join(&log, firings, written.limit).unwrap();
         }
         history.check(&written).unwrap();
+        check_choices(&written).unwrap();
         let (class, id) = (random.likely_byte(), random.likely_byte());
         let reading = session.read(class, id);
         assert_eq!(written.read(class, id), reading);
@@ -79,12 +80,15 @@ fn run_changed(
     coverage: &mut Coverage,
 ) {
     let tables = session_tables(&written);
+    let whole = written.clone();
     generate::change_field(random, &mut written);
+    coverage.meet_written(&whole, &written);
     let tables_are_as_loaded = session_tables(&written) == tables;
     let is_broken = written.is_broken();
     if tables_are_as_loaded {
         let keeps_rules = check_composites(&written).and(check_anchors(&written)).is_ok();
-        assert!(keeps_rules || is_broken);
+        let keeps_choices = check_choices(&written).is_ok();
+        assert!(keeps_rules && keeps_choices || is_broken);
     }
     for _ in 0..3 {
         let call = generate::call(random, document.nodes, document.properties);
@@ -107,6 +111,7 @@ fn run_changed(
             assert_eq!(WrittenSession::from(&session), written);
             check_composites(&written).unwrap();
             check_anchors(&written).unwrap();
+            check_choices(&written).unwrap();
         }
     }
 }
@@ -115,7 +120,7 @@ fn run_changed(
 fn session_tables(written: &WrittenSession) -> WrittenSession {
     let mut tables = written.clone();
     for node in &mut tables.nodes {
-        (node.state, node.clock, node.count) = (0, 0, 0);
+        (node.state, node.clock, node.count, node.choice) = (0, 0, 0, 0);
     }
     for anchor in &mut tables.anchors {
         (anchor.state, anchor.count) = (0, 0);
@@ -140,7 +145,11 @@ fn generated_runs_keep_all_statements_and_meet_all_features() {
         coverage.meet_document(&generate::document(&mut random).bytes);
         coverage.meet_document(&generate::meaningless_bytes(&mut random));
     }
+    for feature in Feature::expected().into_iter().chain(Feature::expected_of_written()) {
+        println!("{feature:?}: {}", coverage.number(feature));
+    }
     assert_eq!(coverage.missing(), []);
+    assert_eq!(coverage.missing_of_written(), []);
 }
 
 /// Sessions of generated documents in the middle of their calls, each with a next call.

@@ -1,4 +1,4 @@
-//! Corner documents of the event machine, worked out by hand from the words of 01.
+//! Corner documents of the event machine, worked out by hand from the words of 01 and of Req 01.
 
 mod common;
 
@@ -473,12 +473,390 @@ fn line_counts_and_not_the_present_state() {
     assert_eq!(run(text, "start 1"), ["1 ok 6 2 1.1.1 1.0.1 5.0.0 1.1.2 1.0.2 5.1.0"]);
 }
 
-// "The owner is checked and has no effect."
+// Links inside a switch
+
+/// Node 0 with switch 1, in it contexts 2 and 3 with media 4 and 5. Where property 0 is 0 a start
+/// finds context 2, where it is 1 context 3, else nothing. Key 0 is heard by link 0 of context 2 and
+/// link 1 of context 3.
+const VARIANTS: &str = "head 9; context 255; switch 0; context 1; context 1; \
+                        media 2 0; media 3 0; port 0 1; port 2 4; port 3 5; \
+                        property 0; rule 0 eq 0; rule 0 eq 1; bind 1 2 0; bind 1 3 1; \
+                        link in 2 key 0; link in 3 key 0;";
+
+const NO_LINK: &str = "ok 1 0 4.0.1";
+const LINK_0: &str = "ok 2 1 4.0.1 5.0.0";
+const LINK_1: &str = "ok 2 1 4.0.1 5.1.0";
+
+/// The last printed line without its number.
+fn last_answer(document_text: &str, script_text: &str) -> String {
+    let printed = run(document_text, script_text);
+    let (_, answer) = printed[printed.len() - 1].split_once(' ').expect("a number and an answer");
+    answer.to_owned()
+}
+
+/// What the session holds for each node after the calls.
+fn choices(document_text: &str, script_text: &str) -> Vec<u8> {
+    let session = written_after(document_text, script_text);
+    session.nodes[..session.node_count].iter().map(|node| node.choice).collect()
+}
+
+// "the child on the path must be the one last chosen by a start of that switch"
 #[test]
-fn owner_has_no_effect() {
-    let mut bytes = document("head 9; context 255; context 0;");
-    bytes.extend([8, 1, 4, 0, 1, 255]);
-    assert_eq!(printed_run(&bytes, &script("key 0")), "1 ok 2 1 4.0.1 5.0.0\n");
+fn links_of_the_chosen_variant_alone_fire() {
+    let again = "stop 1; set 0 0; start 1; key 0";
+    assert_eq!(
+        run(VARIANTS, &format!("start 0; key 0; stop 1; set 0 1; start 1; key 0; {again}")),
+        [
+            "1 ok 4 0 1.4.1 1.2.1 1.1.1 1.0.1",
+            "2 ok 2 1 4.0.1 5.0.0",
+            "3 ok 4 0 1.4.2 1.2.2 1.1.2 1.0.2",
+            "4 ok 2 0 3.0.1 3.0.2",
+            "5 ok 4 0 1.5.1 1.3.1 1.1.1 1.0.1",
+            "6 ok 2 1 4.0.1 5.1.0",
+            "7 ok 4 0 1.5.2 1.3.2 1.1.2 1.0.2",
+            "8 ok 2 0 3.0.1 3.0.2",
+            "9 ok 4 0 1.4.1 1.2.1 1.1.1 1.0.1",
+            "10 ok 2 1 4.0.1 5.0.0"
+        ]
+    );
+    assert_eq!(choices(VARIANTS, "start 0"), [0, 2, 0, 0, 0, 0]);
+    assert_eq!(choices(VARIANTS, "set 0 1; start 0"), [0, 3, 0, 0, 0, 0]);
+}
+
+// "links of the variant not shown still set the count": not any more.
+#[test]
+fn variants_set_the_count_each_by_itself() {
+    let text = "head 9; context 255; media 0 0; switch 0; context 2; context 2; media 3 0; \
+                media 4 0; port 0 1; port 0 2; port 3 5; port 4 6; property 0; property 7; \
+                rule 0 eq 1; default 2 3; bind 2 4 0; anchor 1 1 2; anchor 1 2 3; \
+                link in 3 anchor 0 starts; set 1 100; link in 4 anchor 0 starts; set 1 200; \
+                link in 3 anchor 1 starts; set 1 101; link in 4 anchor 1 starts; set 1 201";
+    let value = |calls: &str| session_after(text, calls).read(3, 1).unwrap().value;
+    assert_eq!(value("start 1; tick"), 7);
+    assert_eq!(value("start 0; tick"), 100);
+    assert_eq!(value("start 0; tick; tick"), 101);
+    assert_eq!(value("set 0 1; start 0; tick"), 200);
+    assert_eq!(value("start 0; tick; stop 2; set 0 1; start 2"), 100);
+    assert_eq!(value("start 0; tick; stop 2; set 0 1; start 2; tick"), 201);
+}
+
+// "For every switch above the owner": without one the owner has no effect, be it node 0, a context
+// beside a switch or one that has the switch below it.
+#[test]
+fn owner_outside_every_switch() {
+    let text = format!("{VARIANTS} context 0; context 6; link in 0 key 1; link in 7 key 1;");
+    for calls in ["", "start 0;", "set 0 9; start 1;", "start 3;", "start 1; abort 0;"] {
+        let answer = last_answer(&text, &format!("{calls} key 1"));
+        assert_eq!(answer, "ok 3 2 4.1.1 5.2.0 5.3.0", "{calls}");
+    }
+    let above = "head 9; context 255; context 0; switch 1; context 2; link in 1 key 0";
+    assert_eq!(run(above, "key 0"), ["1 ok 2 1 4.0.1 5.0.0"]);
+}
+
+// The owner is some contexts below the chosen child.
+#[test]
+fn owner_far_below_the_switch() {
+    let text = "head 9; context 255; switch 0; context 1; context 2; context 3; context 1; \
+                property 0; rule 0 eq 1; default 1 2; bind 1 5 0; \
+                link in 4 key 0; link in 2 key 0; link in 5 key 0; link in 3 key 0";
+    assert_eq!(last_answer(text, "key 0"), NO_LINK);
+    assert_eq!(last_answer(text, "start 1; key 0"), "ok 4 3 4.0.1 5.0.0 5.1.0 5.3.0");
+    assert_eq!(last_answer(text, "set 0 1; start 1; key 0"), "ok 2 1 4.0.1 5.2.0");
+}
+
+/// Switch 1 with contexts 2 and 3, chosen by property 0; switch 4 in context 2, with contexts 5 and
+/// 6, chosen by property 1. Key 0 is heard by a link of each of 2, 3, 5 and 6, in this order.
+const TWO_SWITCHES: &str = "head 9; context 255; switch 0; context 1; context 1; switch 2; \
+                            context 4; context 4; media 5 0; media 6 0; media 3 0; \
+                            port 0 1; port 2 4; port 5 7; port 6 8; port 3 9; \
+                            property 0; property 0; \
+                            rule 0 eq 0; rule 0 eq 1; rule 1 eq 0; rule 1 eq 1; \
+                            bind 1 2 0; bind 1 3 1; bind 4 5 2; bind 4 6 3; \
+                            link in 2 key 0; link in 3 key 0; link in 5 key 0; link in 6 key 0;";
+
+// "For every switch above the owner": both, and not the nearest or the furthest alone.
+#[test]
+fn every_switch_above_must_have_chosen_the_path() {
+    let cases = [
+        // Nothing is chosen.
+        ("", [0, 0], "ok 1 0 4.0.1"),
+        // Both choose.
+        ("start 0;", [2, 5], "ok 3 2 4.0.1 5.0.0 5.2.0"),
+        ("set 1 1; start 0;", [2, 6], "ok 3 2 4.0.1 5.0.0 5.3.0"),
+        // The inner one finds no child.
+        ("set 1 9; start 0;", [2, 0], "ok 2 1 4.0.1 5.0.0"),
+        // The outer one has not chosen, the inner one has.
+        ("start 4;", [0, 5], "ok 1 0 4.0.1"),
+        // The outer one has chosen the other child, the inner one keeps its choice.
+        ("start 0; stop 0; set 0 1; start 1;", [3, 5], "ok 2 1 4.0.1 5.1.0"),
+        ("set 0 1; start 0; start 4;", [3, 5], "ok 2 1 4.0.1 5.1.0"),
+        // The outer one has found no child.
+        ("start 0; stop 0; set 0 9; start 1;", [0, 5], "ok 1 0 4.0.1"),
+    ];
+    for (calls, chosen, answer) in cases {
+        let held = choices(TWO_SWITCHES, calls);
+        assert_eq!([held[1], held[4]], chosen, "{calls}");
+        assert_eq!(last_answer(TWO_SWITCHES, &format!("{calls} key 0")), answer, "{calls}");
+    }
+}
+
+// A switch whose child is a switch: a bind's start chooses too, and each has its own child on the
+// path.
+#[test]
+fn switch_as_the_child_of_a_switch() {
+    let text = "head 9; context 255; switch 0; switch 1; context 2; media 3 0; port 3 4; \
+                default 1 2; default 2 3; link in 3 key 0";
+    assert_eq!(run(text, "start 1; key 0")[1], "2 ok 2 1 4.0.1 5.0.0");
+    assert_eq!(choices(text, "start 1"), [0, 2, 3, 0, 0]);
+    // A start of the inner one is a direct start of the outer one's child.
+    assert_eq!(run(text, "start 2; key 0")[1], "2 ok 1 0 4.0.1");
+    assert_eq!(choices(text, "start 2"), [0, 0, 3, 0, 0]);
+}
+
+// "by a start of that switch": by a command, a port, a port of a port, a bind, a link.
+#[test]
+fn every_start_of_a_sleeping_switch_chooses() {
+    assert_eq!(choices(VARIANTS, "start 1")[1], 2);
+    assert_eq!(choices(VARIANTS, "start 0")[1], 2);
+    assert_eq!(choices(TWO_SWITCHES, "start 0"), [0, 2, 0, 0, 5, 0, 0, 0, 0, 0]);
+    assert_eq!(choices(TWO_SWITCHES, "start 2"), [0, 0, 0, 0, 5, 0, 0, 0, 0, 0]);
+    let by_link = format!("{VARIANTS} link key 1; set 0 1; start 1");
+    assert_eq!(choices(&by_link, "key 1")[1], 3);
+    assert_eq!(last_answer(&by_link, "key 1; key 0"), LINK_1);
+}
+
+// "Starting the child directly ... leaves the choice", also a node further below.
+#[test]
+fn direct_start_of_a_child_leaves_the_choice() {
+    for child in [3, 5] {
+        let calls = format!("start 1; start {child};");
+        assert_eq!(choices(VARIANTS, &calls), [0, 2, 0, 0, 0, 0]);
+        assert_eq!(last_answer(VARIANTS, &format!("{calls} key 0")), LINK_0);
+        // Also where the chosen child sleeps by now and the other one is shown alone.
+        assert_eq!(last_answer(VARIANTS, &format!("{calls} stop 2; key 0")), LINK_0);
+        // Also where there is no choice to leave.
+        assert_eq!(choices(VARIANTS, &format!("start {child}")), [0; 6]);
+        assert_eq!(last_answer(VARIANTS, &format!("start {child}; key 0")), NO_LINK);
+    }
+    let by_link = format!("{VARIANTS} link key 1; start 3");
+    assert_eq!(last_answer(&by_link, "start 1; key 1; key 0"), LINK_0);
+}
+
+// "or a switch already awake, leaves the choice": occurring or paused, whatever the rules say now.
+#[test]
+fn start_of_an_awake_switch_leaves_the_choice() {
+    for start in ["start 1", "start 0"] {
+        for value in [0, 1, 9] {
+            for before in ["", "pause 0;"] {
+                let calls = format!("start 1; {before} set 0 {value}; {start};");
+                assert_eq!(choices(VARIANTS, &calls)[1], 2, "{calls}");
+                assert_eq!(last_answer(VARIANTS, &format!("{calls} key 0")), LINK_0, "{calls}");
+            }
+        }
+    }
+    // Awake by a direct start of its child, it has no choice and gets none.
+    assert_eq!(choices(VARIANTS, "start 3; start 1; start 0")[1], 0);
+    assert_eq!(last_answer(VARIANTS, "start 3; set 0 1; start 1; key 0"), NO_LINK);
+}
+
+// "A start that finds no child clears the choice"
+#[test]
+fn start_that_finds_no_child_clears_the_choice() {
+    for start in ["start 1", "start 0"] {
+        let calls = format!("start 1; stop 1; set 0 9; {start};");
+        assert_eq!(choices(VARIANTS, &calls), [0; 6]);
+        assert_eq!(last_answer(VARIANTS, &format!("{calls} key 0")), NO_LINK);
+        // A rule that holds afterwards chooses nothing before the next start.
+        assert_eq!(last_answer(VARIANTS, &format!("{calls} set 0 0; key 0")), NO_LINK);
+        assert_eq!(last_answer(VARIANTS, &format!("{calls} set 0 1; start 1; key 0")), LINK_1);
+    }
+    let by_link = format!("{VARIANTS} link key 1; stop 1; set 0 9; start 1");
+    assert_eq!(last_answer(&by_link, "start 1; key 1; key 0"), NO_LINK);
+}
+
+// "and a new session has none": neither a holding bind nor a default counts before a start.
+#[test]
+fn new_session_has_no_choice() {
+    assert_eq!(choices(VARIANTS, ""), [0; 6]);
+    assert_eq!(last_answer(VARIANTS, "key 0"), NO_LINK);
+    let with_default = format!("{VARIANTS} default 1 3");
+    assert_eq!(last_answer(&with_default, "set 0 9; key 0"), NO_LINK);
+    assert_eq!(choices(&with_default, "set 0 9; tick; stop 0; pause 1"), [0; 6]);
+}
+
+// A default is chosen by the start that falls back on it.
+#[test]
+fn default_is_chosen_by_a_start() {
+    let with_default = format!("{VARIANTS} default 1 3");
+    assert_eq!(last_answer(&with_default, "set 0 9; start 1; key 0"), LINK_1);
+    assert_eq!(last_answer(&with_default, "start 1; stop 1; set 0 9; key 0"), LINK_0);
+    assert_eq!(last_answer(&with_default, "start 1; stop 1; set 0 9; start 1; key 0"), LINK_1);
+}
+
+// Nothing in the words ends a choice with the sleep of its switch: stop, abort, natural end, of the
+// switch, its child, the media and the node above.
+#[test]
+fn choice_outlives_the_sleep_of_its_switch() {
+    for action in ["stop", "abort"] {
+        for node in [0, 1, 2, 4] {
+            let calls = format!("start 1; {action} {node};");
+            assert_eq!(choices(VARIANTS, &calls)[1], 2, "{calls}");
+            assert_eq!(last_answer(VARIANTS, &format!("{calls} key 0")), LINK_0, "{calls}");
+        }
+    }
+    let ending = VARIANTS.replacen("media 2 0", "media 2 1", 1);
+    assert_eq!(
+        run(&ending, "start 1; tick; key 0")[1..],
+        ["2 ok 4 0 1.4.2 1.2.2 1.1.2 1.0.2", "3 ok 2 1 4.0.1 5.0.0"]
+    );
+    // Pause and resume leave it too.
+    assert_eq!(last_answer(VARIANTS, "start 1; pause 1; key 0"), LINK_0);
+    assert_eq!(last_answer(VARIANTS, "start 1; pause 1; resume 0; key 0"), LINK_0);
+}
+
+// A link of the chosen variant hears the start and the stop of its own switch.
+#[test]
+fn links_on_the_switch_above_them() {
+    let text = format!(
+        "{VARIANTS} link in 2 node 1 starts; link in 3 node 1 starts; \
+         link in 2 node 1 stops; link in 3 node 1 stops"
+    );
+    assert_eq!(
+        run(&text, "start 1; stop 1; set 0 1; start 1; abort 4; stop 0"),
+        [
+            "1 ok 5 1 1.4.1 1.2.1 1.1.1 1.0.1 5.2.0",
+            "2 ok 5 1 1.4.2 1.2.2 1.1.2 1.0.2 5.4.0",
+            "3 ok 2 0 3.0.1 3.0.2",
+            "4 ok 5 1 1.5.1 1.3.1 1.1.1 1.0.1 5.3.0",
+            "5 ok 0 0",
+            "6 ok 5 1 1.5.2 1.3.2 1.1.2 1.0.2 5.5.0"
+        ]
+    );
+}
+
+// The choice of the moment counts: an earlier link of the same line has changed it. A link before
+// that one has fired by the choice before.
+#[test]
+fn choice_at_the_moment_of_firing() {
+    let change = "link key 1; set 0 1; stop 1; start 1;";
+    let links = "link in 2 key 1; link in 3 key 1;";
+    let text = format!("{VARIANTS} {links} {change} {links}");
+    assert_eq!(
+        run(&text, "start 1; key 1; key 1")[1..],
+        [
+            "2 ok 14 3 4.1.1 5.2.0 5.4.0 3.0.1 3.0.2 1.4.2 1.2.2 1.1.2 1.0.2 \
+             1.5.1 1.3.1 1.1.1 1.0.1 5.6.0",
+            "3 ok 14 3 4.1.1 5.3.0 5.4.0 3.0.1 3.0.2 1.5.2 1.3.2 1.1.2 1.0.2 \
+             1.5.1 1.3.1 1.1.1 1.0.1 5.6.0"
+        ]
+    );
+}
+
+// The line of a start is taken when later actions of the same link have cleared the choice.
+#[test]
+fn choice_cleared_before_the_line_is_taken() {
+    let text = format!(
+        "{VARIANTS} link in 2 node 2 starts; link key 1; start 1; stop 1; set 0 9; start 1;"
+    );
+    assert_eq!(
+        run(&text, "key 1; start 1; set 0 0; start 1"),
+        [
+            "1 ok 12 1 4.1.1 5.3.0 1.4.1 1.2.1 1.1.1 1.0.1 1.4.2 1.2.2 1.1.2 1.0.2 3.0.1 3.0.2",
+            "2 ok 0 0",
+            "3 ok 2 0 3.0.1 3.0.2",
+            "4 ok 5 1 1.4.1 1.2.1 1.1.1 1.0.1 5.2.0"
+        ]
+    );
+}
+
+// The actions of a link that has fired all run, also those after the one that unchooses its owner.
+#[test]
+fn link_that_unchooses_its_owner() {
+    let text =
+        format!("{VARIANTS} property 0; link in 2 key 1; stop 1; set 0 1; start 1; set 1 5;");
+    assert_eq!(
+        run(&text, "start 1; key 1; key 1")[1..],
+        [
+            "2 ok 14 1 4.1.1 5.2.0 1.4.2 1.2.2 1.1.2 1.0.2 3.0.1 3.0.2 \
+             1.5.1 1.3.1 1.1.1 1.0.1 3.1.1 3.1.2",
+            "3 ok 1 0 4.1.1"
+        ]
+    );
+}
+
+// Guard and choice are both asked.
+#[test]
+fn guard_and_choice() {
+    let text = format!("{VARIANTS} property 0; rule 1 eq 1; link in 2 key 1 guard 2;");
+    assert_eq!(last_answer(&text, "key 1"), "ok 1 0 4.1.1");
+    assert_eq!(last_answer(&text, "set 1 1; key 1"), "ok 1 0 4.1.1");
+    assert_eq!(last_answer(&text, "start 1; key 1"), "ok 1 0 4.1.1");
+    assert_eq!(last_answer(&text, "start 1; set 1 1; key 1"), "ok 2 1 4.1.1 5.2.0");
+}
+
+// "11 when a link would fire": one that is held back would not. Nor does it need room in the log.
+#[test]
+fn link_held_back_meets_neither_limit_nor_log() {
+    let once = VARIANTS.replacen("head 9", "head 1", 1);
+    let text = format!("{once} link key 0;");
+    assert_eq!(last_answer(&text, "key 0"), "ok 2 1 4.0.1 5.2.0");
+    assert_eq!(last_answer(&text, "start 1; key 0"), "no 11");
+    let key_with = |calls: &str, length| session_after(&text, calls).key(0, &mut vec![0; length]);
+    assert_eq!(key_with("", 8), Ok(1));
+    assert_eq!(key_with("", 7), Err(Refusal::LogFull));
+    assert_eq!(key_with("start 1", 8), Err(Refusal::FiringLimit));
+    // It is held back after the limit is used up, too.
+    let after = once.replacen("link in 2", "link key 0; link in 2", 1);
+    assert_eq!(last_answer(&after, "key 0"), LINK_0);
+    assert_eq!(last_answer(&after, "start 1; key 0"), "no 11");
+}
+
+// A refused call leaves the choices: the log is too short for a start that chooses, or the chain
+// meets the limit after a link's start has chosen, or has cleared.
+#[test]
+fn refused_call_leaves_the_choices() {
+    let mut session = session_after(VARIANTS, "start 1; stop 1; set 0 1");
+    let before = session.clone();
+    assert_eq!(session.command(1, 1, 0, &mut [0; 15]), Err(Refusal::LogFull));
+    assert_eq!(session, before);
+    assert_eq!(session.key(0, &mut [0; 8]), Ok(1));
+    let looping = "link property 0 stops; set 0 1;";
+    for value in [1, 9] {
+        let text = format!("{VARIANTS} link key 1; stop 1; set 0 {value}; start 1; {looping}");
+        assert_eq!(run(&text, "start 1; key 1; key 0")[1..], ["2 no 11", "3 ok 2 1 4.0.1 5.0.0"]);
+        assert_eq!(choices(&text, "start 1; key 1")[1], 2);
+    }
+}
+
+// A chosen child that wakes nothing is chosen all the same: a context without ports, and a switch
+// that finds no child. The call logs nothing and the switch sleeps.
+#[test]
+fn chosen_child_that_wakes_nothing() {
+    let text = "head 9; context 255; switch 0; context 1; default 1 2; link in 2 key 0";
+    assert_eq!(run(text, "start 1; key 0"), ["1 ok 0 0", "2 ok 2 1 4.0.1 5.0.0"]);
+    assert_eq!(choices(text, "start 1"), [0, 2, 0]);
+    let text = "head 9; context 255; switch 0; switch 1; context 2; property 0; rule 0 eq 0; \
+                default 1 2; bind 2 3 0; link in 3 key 0";
+    assert_eq!(choices(text, "start 1"), [0, 2, 3, 0]);
+    assert_eq!(choices(text, "start 1; set 0 1; start 1"), [0, 2, 0, 0]);
+    assert_eq!(last_answer(text, "start 1; key 0"), LINK_0);
+    assert_eq!(last_answer(text, "start 1; set 0 1; start 1; key 0"), NO_LINK);
+    // Nothing wakes, so that each further start is one of a sleeping switch.
+    assert_eq!(last_answer(text, "set 0 1; start 1; set 0 0; start 1; key 0"), LINK_0);
+}
+
+// "The session remembers the choice": also as written down, from call to call.
+#[test]
+fn written_session_remembers_the_choice() {
+    let mut session = written_after(VARIANTS, "start 1; stop 1");
+    session.nodes[1].choice = 3;
+    let mut log = [0; 8];
+    assert_eq!((session.key(0, &mut log), log), (Ok(1), [4, 0, 1, 0, 5, 1, 0, 0]));
+    assert_eq!(session.nodes[1].choice, 3);
+    session.nodes[1].choice = 0;
+    assert_eq!(session.key(0, &mut log), Ok(0));
+    assert_eq!(session.command(1, 1, 0, &mut [0; 16]), Ok(0));
+    assert_eq!(session.nodes[1].choice, 2);
 }
 
 // Rules

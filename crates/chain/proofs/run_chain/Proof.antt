@@ -7,37 +7,51 @@ use lib.ListN.{length}
 use Rattle.base.specs.Tests.{not-true, not-false}
 use Rattle.base.specs.Loops.{ascending, ascending-none, ascending-more, ascending-done}
 use Rattle.machine.specs.Events.{Run}
+use Rattle.machine.specs.Owners.{ownerChosen}
 use Rattle.machine.specs.Chain.{goesOn, linkTried, lineTaken, linesTaken, chained}
+use Rattle.choices.proofs.PathLaws.{path-asked}
 use Rattle.rules.proofs.Facts.{sound-rules}
 use Rattle.events.specs.Running.{run}
 use Rattle.log.proofs.LogLaws.{lines-have, lines-lack}
 use Rattle.chain.specs.Trying.{mayFire}
-use Rattle.chain.proofs.ChainLaws.{no-actions, not-heard, may-not, fires-now, chain-more, chain-stopped, chain-ended, chain-done}
+use Rattle.chain.proofs.ChainLaws.{no-actions, may-is, not-heard, may-not, fires-now, chain-more, chain-stopped, chain-ended, chain-done}
 use borrow.Author.Needs.{needs}
 use Rattle.chain.proofs.run_chain.Statement.{statement}
 use Rattle.chain.proofs.run_chain.Tie as tie
 
 abbrev Inv-loop2 : tie.InvT-loop2
-Inv-loop2 d log₀ t₀ links end room next k lines x link₀ log t link = (link ≤ end) × (length log ≡ length log₀) × (run t log ≡ ascending (linkTried d x) link (run t₀ log₀))
+Inv-loop2 d log₀ t₀ nodes links end room next k lines x link₀ log t link = (link ≤ end) × (length log ≡ length log₀) × (run t log ≡ ascending (linkTried ownerChosen d x) link (run t₀ log₀))
 
 abbrev μ-loop2 : tie.MeasureT-loop2
-μ-loop2 d log₀ t₀ links end room next k lines x link₀ log t link = end - link
+μ-loop2 d log₀ t₀ nodes links end room next k lines x link₀ log t link = end - link
 
 abbrev Inv-loop : tie.InvT-loop
-Inv-loop d log₀ t₀ links end room next₀ log t next = (next ≤ room) × (length log ≡ length log₀) × (linesTaken d (room - next) next (run t log) ≡ chained d (run t₀ log₀))
+Inv-loop d log₀ t₀ nodes links end room next₀ log t next = (next ≤ room) × (length log ≡ length log₀) × (linesTaken ownerChosen d (room - next) next (run t log) ≡ chained ownerChosen d (run t₀ log₀))
 
 abbrev μ-loop : tie.MeasureT-loop
-μ-loop d log₀ t₀ links end room next₀ log t next = room - next
+μ-loop d log₀ t₀ nodes links end room next₀ log t next = room - next
 
 -- a turn of the inner loop: the function's entry, and the run before the turn
 abbrev entry : tie.At-loop2 Inv-loop2 μ-loop2 Inv-loop μ-loop → tie.Start Inv-loop2 μ-loop2 Inv-loop μ-loop
-entry a = a .before .before .before .before .before .before .before .before .before .before
+entry a = a .before .before .before .before .before .before .before .before .before .before .before
 
 abbrev before : tie.At-loop2 Inv-loop2 μ-loop2 Inv-loop μ-loop → Run
 before a = run (a .loop2 .t) (a .loop2 .log)
 
+-- where it is known whether a link that hears the line may fire: the turn, and that this is what the definition says
+abbrev Asked : Type 0
+Asked = tie.After-may-fire Inv-loop2 μ-loop2 Inv-loop μ-loop
+
+abbrev turn : Asked → tie.At-loop2 Inv-loop2 μ-loop2 Inv-loop μ-loop
+turn i = i .before .before .before .before .before .before .before .before .before .before .before .before .before .before .before .before .before
+
+may : (i : Asked) → i .may-fire .result ≡ mayFire (entry (turn i) .args .d) (turn i .loop2 .link) (before (turn i))
+unfolding goesOn
+may i =
+    may-is (entry (turn i) .args .d) (turn i .loop2 .link) (before (turn i)) (i .before .before .before .before .before .before .before .before .index-of .ensures .0) (i .before .before .before .path-chosen .ensures (entry (turn i) .args .d .nodes) refl refl) (i .may-fire .ensures)
+
 pub run-chain-spec : {M : Type 1} → statement M
-unfolding chained lineTaken goesOn mayFire
+unfolding chained lineTaken goesOn
 run-chain-spec =
     tie.close
     (tie.spec
@@ -68,7 +82,7 @@ run-chain-spec =
     (λ c.
     let the-loop2 = c .before .loop2 in
     let the-loop = c .before .before .before .before .before .before .before .before .loop in
-    let the-entry = c .before .before .before .before .before .before .before .before .before .before .before in
+    let the-entry = c .before .before .before .before .before .before .before .before .before .before .before .before in
     let the-line-at = c .before .before .line-at in
     let the-loop-test = c .before .before .before .before .before .before .before .loop-test in
     let the-goes-on = c .before .before .before .before .before .before .goes-on in
@@ -84,65 +98,60 @@ run-chain-spec =
     (λ c. search needs)  -- element-copy-out-hears-2
     (λ c. search needs)  -- element-copy-out-hears-3
     (λ c κs. search needs)  -- hears-requires
+    (λ c. search needs)  -- element-copy-out-index-of
+    (λ c κs. search needs)  -- index-of-requires
+    (λ c κs.
+    let the-entry = c .before .before .before .before .before .before .before .before .before .before .before .before .before .before .before .before .before .before .before .before .before .before .before .before in
+    path-asked (the-entry .pre .nodes) (rw (c .before .before .before .before .index-of .ensures .0) (the-entry .pre .link-owner _ (c .before .before .before .before .before .before .before .before .before .before .before .before .loop2-test .taken))))  -- path-chosen-requires
     (λ c. search needs)  -- element-copy-out-may-fire
     (λ c κs.
-    let the-entry = c .before .before .before .before .before .before .before .before .before .before .before .before .before .before .before .before .before .before in
-    let the-loop2-test = c .before .before .before .before .before .before .before .loop2-test in
+    let the-entry = c .before .before .before .before .before .before .before .before .before .before .before .before .before .before .before .before .before .before .before .before .before .before .before .before .before .before .before in
+    let the-loop2-test = c .before .before .before .before .before .before .before .before .before .before .before .before .before .before .before .loop2-test in
     (the-entry .pre .link-guard _ (the-loop2-test .taken), sound-rules (the-entry .pre)))  -- may-fire-requires
     (λ c κs.
-    let the-entry = c .before .before .before .before .before .before .before .before .before .before .before .before .before .before .before .before .before .before .before .before .before in
-    let the-loop2-test = c .before .before .before .before .before .before .before .before .before .before .loop2-test in
+    let the-entry = c .before .before .before .before .before .before .before .before .before .before .before .before .before .before .before .before .before .before .before .before .before .before .before .before .before .before .before .before .before .before in
+    let the-loop2-test = c .before .before .before .before .before .before .before .before .before .before .before .before .before .before .before .before .before .before .loop2-test in
     omega (arith, the-entry .pre .links, the-loop2-test))  -- begin-firing-requires
     (λ c.
-    let the-entry = c .before .before .before .before .before .before .before .before .before .before .before .before .before .before .before .before .before .before .before .before .before .before .before .before in
-    let the-loop2-test = c .before .before .before .before .before .before .before .before .before .before .before .before .before .loop2-test in
+    let the-entry = c .before .before .before .before .before .before .before .before .before .before .before .before .before .before .before .before .before .before .before .before .before .before .before .before .before .before .before .before .before .before .before .before .before in
+    let the-loop2-test = c .before .before .before .before .before .before .before .before .before .before .before .before .before .before .before .before .before .before .before .before .before .loop2-test in
     omega (arith, the-entry .pre .links, the-loop2-test))  -- element-copy-out-if5
     (λ c κs.
-    let the-entry = c .before .before .before .before .before .before .before .before .before .before .before .before .before .before .before .before .before .before .before .before .before .before .before .before .before .before .before in
-    let the-loop2-test = c .before .before .before .before .before .before .before .before .before .before .before .before .before .before .before .before .loop2-test in
+    let the-entry = c .before .before .before .before .before .before .before .before .before .before .before .before .before .before .before .before .before .before .before .before .before .before .before .before .before .before .before .before .before .before .before .before .before .before .before .before in
+    let the-loop2-test = c .before .before .before .before .before .before .before .before .before .before .before .before .before .before .before .before .before .before .before .before .before .before .before .before .loop2-test in
     (the-entry .pre, the-loop2-test .taken))  -- run-actions-requires
     (λ c.
-    let the-loop2-test = c .before .before .before .before .before .before .before .before .before .before .before .before .before .before .before .before .before .before .before .loop2-test in
+    let the-loop2-test = c .before .before .before .before .before .before .before .before .before .before .before .before .before .before .before .before .before .before .before .before .before .before .before .before .before .before .before .loop2-test in
     omega (arith, the-loop2-test))  -- loop2-less
     (λ c.
-    let the-loop2-test = c .before .before .before .before .before .before .before .before .before .before .before .before .before .before .before .before .before .before .before .loop2-test in
     let the-run-actions = c .before .before .run-actions in
     let the-begin-firing = c .before .before .before .before .before .before .before .before .begin-firing in
-    let a = c .before .before .before .before .before .before .before .before .before .before .before .before .before .before .before .before .before .before .before .before in
-    let the-hears = c .before .before .before .before .before .before .before .before .before .before .before .before .before .before .before .hears in
-    let the-if3 = c .before .before .before .before .before .before .before .before .before .before .before .before .before .before .if3 in
-    let the-may-fire = c .before .before .before .before .before .before .before .before .before .before .before .may-fire in
-    let the-if4 = c .before .before .before .before .before .before .before .before .before .before .if4 in (
-      omega (arith, the-loop2-test),
+    let i = c .before .before .before .before .before .before .before .before .before .before .before in
+    let a = turn i in (
+      omega (arith, i .before .before .before .before .before .before .before .before .before .before .before .before .before .before .before .before .loop2-test),
       the-run-actions .kept .1 .1 .0 ∙ the-begin-firing .kept .1 .0 ∙ a .loop2 .inv .1,
       ascending-more _ _ _ (a .loop2 .inv .2)
-          (fires-now (entry a .args .d) (a .before .line-at .result) (a .loop2 .link) (before a) (the-hears .ensures) (the-if3 .taken) (the-may-fire .ensures) (the-if4 .taken) (the-begin-firing .ensures) (the-run-actions .ensures)),
+          (fires-now (entry a .args .d) (a .before .line-at .result) (a .loop2 .link) (before a) (i .before .before .before .before .before .before .before .before .before .before .before .before .hears .ensures) (i .before .before .before .before .before .before .before .before .before .before .before .if3 .taken) (may i) (c .before .before .before .before .before .before .before .before .before .before .if4 .taken) (the-begin-firing .ensures) (the-run-actions .ensures)),
     ))  -- loop2-again
     (λ c.
-    let the-loop2-test = c .before .before .before .before .before .before .before .before .before .before .before .before .before .before .before .loop2-test in
+    let the-loop2-test = c .before .before .before .before .before .before .before .before .before .before .before .before .before .before .before .before .before .before .before .before .before .before .before .loop2-test in
     omega (arith, the-loop2-test))  -- loop2-less-2
     (λ c.
-    let the-loop2-test = c .before .before .before .before .before .before .before .before .before .before .before .before .before .before .before .loop2-test in
     let the-begin-firing = c .before .before .before .before .begin-firing in
-    let a = c .before .before .before .before .before .before .before .before .before .before .before .before .before .before .before .before in
-    let the-hears = c .before .before .before .before .before .before .before .before .before .before .before .hears in
-    let the-if3 = c .before .before .before .before .before .before .before .before .before .before .if3 in
-    let the-may-fire = c .before .before .before .before .before .before .before .may-fire in
-    let the-if4 = c .before .before .before .before .before .before .if4 in
-    let the-if5 = c .if5 in (
-      omega (arith, the-loop2-test),
+    let i = c .before .before .before .before .before .before .before in
+    let a = turn i in (
+      omega (arith, i .before .before .before .before .before .before .before .before .before .before .before .before .before .before .before .before .loop2-test),
       the-begin-firing .kept .1 .0 ∙ a .loop2 .inv .1,
       ascending-more _ _ _ (a .loop2 .inv .2)
-          (fires-now (entry a .args .d) (a .before .line-at .result) (a .loop2 .link) (before a) (the-hears .ensures) (the-if3 .taken) (the-may-fire .ensures) (the-if4 .taken) (the-begin-firing .ensures) (no-actions _ _ _ (omega (arith, the-if5 .left)))),
+          (fires-now (entry a .args .d) (a .before .line-at .result) (a .loop2 .link) (before a) (i .before .before .before .before .before .before .before .before .before .before .before .before .hears .ensures) (i .before .before .before .before .before .before .before .before .before .before .before .if3 .taken) (may i) (c .before .before .before .before .before .before .if4 .taken) (the-begin-firing .ensures) (no-actions _ _ _ (omega (arith, c .if5 .left)))),
     ))  -- loop2-again-2
-    (λ c. search needs)  -- loop2-less-3
     (λ c.
-    let a = c .before .before .before .before .before .before .before .before .before .before in
-    let the-hears = c .before .before .before .before .before .hears in
-    let the-if3 = c .before .before .before .before .if3 in
-    let the-may-fire = c .before .may-fire in
-    let the-if4 = c .if4 in
-    (omega arith, a .loop2 .inv .1, ascending-more _ _ _ (a .loop2 .inv .2) (may-not (entry a .args .d) (a .before .line-at .result) (a .loop2 .link) (before a) (the-hears .ensures) (the-if3 .taken) (the-may-fire .ensures) (the-if4 .left))))  -- loop2-again-3
+    let the-loop2-test = c .before .before .before .before .before .before .before .before .before .before .before .before .before .before .before .before .before .loop2-test in
+    omega (arith, the-loop2-test))  -- loop2-less-3
+    (λ c.
+    let i = c .before in
+    let a = turn i in
+    (omega (arith, i .before .before .before .before .before .before .before .before .before .before .before .before .before .before .before .before .loop2-test), a .loop2 .inv .1, ascending-more _ _ _ (a .loop2 .inv .2) (may-not (entry a .args .d) (a .before .line-at .result) (a .loop2 .link) (before a) (i .before .before .before .before .before .before .before .before .before .before .before .before .hears .ensures) (i .before .before .before .before .before .before .before .before .before .before .before .if3 .taken) (may i) (c .if4 .left))))  -- loop2-again-3
     (λ c. search needs)  -- loop2-less-4
     (λ c.
     let a = c .before .before .before .before .before .before in

@@ -30,5 +30,5 @@ first-failing-spec =
     let the-entry = c .before .before .before .before .before .before in
     let the-sweep = c .before .before .before .sweep in
     let the-first-of = c .first-of in
-    rw (← the-has-anchor .ensures, ← the-disjoint .ensures, ← the-each-has-one-link .ensures (the-entry .args .d) _ refl (the-sweep .ensures .0), ← the-sweep .ensures .1, ← the-sweep .ensures .2, ← the-sweep .ensures .3) (the-first-of .ensures))  -- returns
+    rw (← the-has-anchor .ensures, ← the-disjoint .ensures, ← the-each-has-one-link .ensures (the-entry .args .d) _ refl (the-sweep .ensures .0), ← the-sweep .ensures .1, ← the-sweep .ensures .2, ← the-sweep .ensures .3, ← the-sweep .ensures .4) (the-first-of .ensures))  -- returns
     )

@@ -43,11 +43,21 @@ first-of-spec =
     let the-if1 = c .before .before .before .before .before .if1 in
     rw (the-if6 .taken, the-if5 .left, the-if4 .left, the-if3 .left, the-if2 .left, the-if1 .left))  -- returns-6
     (λ c.
-    let the-if6 = c .if6 in
-    let the-if5 = c .before .if5 in
-    let the-if4 = c .before .before .if4 in
-    let the-if3 = c .before .before .before .if3 in
-    let the-if2 = c .before .before .before .before .if2 in
-    let the-if1 = c .before .before .before .before .before .if1 in
-    rw (the-if6 .left, the-if5 .left, the-if4 .left, the-if3 .left, the-if2 .left, the-if1 .left))  -- returns-7
+    let the-if7 = c .if7 in
+    let the-if6 = c .before .if6 in
+    let the-if5 = c .before .before .if5 in
+    let the-if4 = c .before .before .before .if4 in
+    let the-if3 = c .before .before .before .before .if3 in
+    let the-if2 = c .before .before .before .before .before .if2 in
+    let the-if1 = c .before .before .before .before .before .before .if1 in
+    rw (the-if7 .taken, the-if6 .left, the-if5 .left, the-if4 .left, the-if3 .left, the-if2 .left, the-if1 .left))  -- returns-7
+    (λ c.
+    let the-if7 = c .if7 in
+    let the-if6 = c .before .if6 in
+    let the-if5 = c .before .before .if5 in
+    let the-if4 = c .before .before .before .if4 in
+    let the-if3 = c .before .before .before .before .if3 in
+    let the-if2 = c .before .before .before .before .before .if2 in
+    let the-if1 = c .before .before .before .before .before .before .if1 in
+    rw (the-if7 .left, the-if6 .left, the-if5 .left, the-if4 .left, the-if3 .left, the-if2 .left, the-if1 .left))  -- returns-8
     )

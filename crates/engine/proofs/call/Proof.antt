@@ -1,7 +1,7 @@
 -- `engine::call` meets its contract. Assumes nothing.
 use mathlib.Core.Path.{sym}
 use Rattle.base.specs.Tests.{if_then_else_}
-use Rattle.machine.specs.Operations.{call}
+use Rattle.machine.specs.Operations.{callAdmitting}
 use Rattle.machine.proofs.Whole.{unbroken-sound}
 use Rattle.machine.specs.Answers.{numbered}
 use Rattle.engine.proofs.Unbroken.{session-arrays, promised}
@@ -10,7 +10,7 @@ use Rattle.engine.proofs.call.Statement.{statement}
 use Rattle.engine.proofs.call.Tie as tie
 
 pub call-spec : {M : Type 1} → statement M
-unfolding call if_then_else_
+unfolding callAdmitting if_then_else_
 call-spec =
     tie.close
     (tie.spec

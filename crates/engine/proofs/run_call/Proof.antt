@@ -1,11 +1,11 @@
 -- `engine::run_call` meets its contract. Assumes nothing.
-use Rattle.machine.specs.Operations.{runOf}
+use Rattle.machine.specs.Operations.{runAdmitting}
 use borrow.Author.Needs.{needs}
 use Rattle.engine.proofs.run_call.Statement.{statement}
 use Rattle.engine.proofs.run_call.Tie as tie
 
 pub run-call-spec : {M : Type 1} → statement M
-unfolding runOf
+unfolding runAdmitting
 run-call-spec =
     tie.close
     (tie.spec

@@ -1,5 +1,5 @@
 -- `player::call` meets its contract. Assumes nothing.
-use Rattle.machine.specs.Operations.{call}
+use Rattle.machine.specs.Operations.{callAdmitting}
 use mathlib.Core.Path.{sym, _∙_}
 use Rattle.base.specs.Tests.{if_then_else_}
 use borrow.Author.Needs.{needs}
@@ -7,7 +7,7 @@ use Rattle.player.proofs.call.Statement.{statement}
 use Rattle.player.proofs.call.Tie as tie
 
 pub call-spec : {M : Type 1} → statement M
-unfolding call if_then_else_
+unfolding callAdmitting if_then_else_
 call-spec =
     tie.close
     (tie.spec

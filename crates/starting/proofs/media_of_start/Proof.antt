@@ -23,31 +23,23 @@ media-of-start-spec =
     let the-entry = c .before .before .before .before .before .before .before .before in
     (sound-binds (the-entry .pre .0), sound-rules (the-entry .pre .0)))  -- found-children-requires
     (λ c κs.
-    let the-entry = c .before .before .before .before .before .before .before .before .before .before .before .before .before .before .before .before .before in
-    let the-found-children = c .before .before .before .before .before .before .before .before .found-children in
-    let places : length (the-entry .args .t2) ≡ 64 = search (needs, the-entry .good .1 .0) in (later-children (the-entry .args .d) (the-entry .pre .0) _ _ (the-found-children .ensures), room-none _ places))  -- start-context-requires
+    let the-entry = c .before .before .before .before .before .before .before .before .before .before .before .before .before .before .before .before .before .before in
+    let places : length (the-entry .args .t2) ≡ 64 = search (needs, the-entry .good .1 .0) in (later-children (the-entry .args .d) (the-entry .pre .0) _ _ (c .before .before .before .before .before .before .before .before .before .found-children .ensures), room-none _ places))  -- start-context-requires
     (λ c. search needs)  -- enum-told-4
     (λ c κs.
     let the-entry = c .before .before .before .before .before .before .before .before in
     (sound-binds (the-entry .pre .0), sound-rules (the-entry .pre .0)))  -- found-children-requires-2
     (λ c κs.
-    let the-entry = c .before .before .before .before .before .before .before .before .before .before .before .before .before .before .before .before .before in
-    let the-found-children2 = c .before .before .before .before .before .before .before .before .found-children2 in
-    let places : length (the-entry .args .t2) ≡ 64 = search (needs, the-entry .good .1 .0) in (later-children (the-entry .args .d) (the-entry .pre .0) _ _ (the-found-children2 .ensures), room-none _ places, omega (arith, the-entry .pre .0 .nodes .few)))  -- start-switch-requires
-    (λ c. nothing-reached _ _ _ _ _ (c .before .before .start-of .ensures) (c .enum-told .given .1))  -- returns
-    (λ c.
-    let the-entry = c .before .before .before .before .before .before .before .before in
-    itself-reached _ _ _ _ _ (c .before .before .start-of .ensures) (c .enum-told2 .given .1) (omega (arith, the-entry .pre .0 .nodes .few)))  -- returns-2
-    (λ c.
     let the-entry = c .before .before .before .before .before .before .before .before .before .before .before .before .before .before .before .before .before .before in
-    let the-start-of = c .before .before .before .before .before .before .before .before .before .before .before .before .start-of in
-    let the-found-children = c .before .before .before .before .before .before .before .before .before .found-children in
-    let the-enum-told3 = c .before .before .before .before .before .before .before .before .before .before .enum-told3 in
-    below-reached (the-entry .args .d) _ _ _ _ (the-start-of .ensures) (the-entry .pre .0) _ (the-found-children .ensures) _ (c .start-context .ensures) (λ r. rw (the-enum-told3 .given .1)))  -- returns-3
+    let places : length (the-entry .args .t2) ≡ 64 = search (needs, the-entry .good .1 .0) in (later-children (the-entry .args .d) (the-entry .pre .0) _ _ (c .before .before .before .before .before .before .before .before .before .found-children2 .ensures), room-none _ places, omega (arith, the-entry .pre .0 .nodes .few)))  -- start-switch-requires
     (λ c.
-    let the-entry = c .before .before .before .before .before .before .before .before .before .before .before .before .before .before .before .before .before .before in
-    let the-start-of = c .before .before .before .before .before .before .before .before .before .before .before .before .start-of in
-    let the-found-children2 = c .before .before .before .before .before .before .before .before .before .found-children2 in
-    let the-enum-told4 = c .before .before .before .before .before .before .before .before .before .before .enum-told4 in
-    below-reached (the-entry .args .d) _ _ _ _ (the-start-of .ensures) (the-entry .pre .0) _ (the-found-children2 .ensures) _ (c .start-switch .ensures) (λ r. rw (the-enum-told4 .given .1)))  -- returns-4
+    nothing-reached _ _ _ _ _ _ (c .before .before .start-of .ensures) (c .enum-told .given .1))  -- returns
+    (λ c.
+    itself-reached _ _ _ _ _ _ (c .before .before .start-of .ensures) (c .enum-told2 .given .1) (omega (arith, c .before .before .before .before .before .before .before .before .pre .0 .nodes .few)))  -- returns-2
+    (λ c.
+    let the-entry = c .before .before .before .before .before .before .before .before .before .before .before .before .before .before .before .before .before .before .before in
+    below-reached (the-entry .args .d) _ _ _ _ _ (c .before .before .before .before .before .before .before .before .before .before .before .before .before .start-of .ensures) (the-entry .pre .0) _ (c .before .before .before .before .before .before .before .before .before .before .found-children .ensures) _ (c .start-context .ensures) (λ r. rw (c .before .before .before .before .before .before .before .before .before .before .before .enum-told3 .given .1)))  -- returns-3
+    (λ c.
+    let the-entry = c .before .before .before .before .before .before .before .before .before .before .before .before .before .before .before .before .before .before .before in
+    below-reached (the-entry .args .d) _ _ _ _ _ (c .before .before .before .before .before .before .before .before .before .before .before .before .before .start-of .ensures) (the-entry .pre .0) _ (c .before .before .before .before .before .before .before .before .before .before .found-children2 .ensures) _ (c .start-switch .ensures) (λ r. rw (c .before .before .before .before .before .before .before .before .before .before .before .enum-told4 .given .1)))  -- returns-4
     )

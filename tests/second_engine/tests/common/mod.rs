@@ -15,7 +15,8 @@ pub fn hex(digits: &str) -> Vec<u8> {
 
 /// A document from records such as `head 2; context 255; media 0 3; anchor 1 1 2; property 0;
 /// rule 0 lt 5; and 0 1; bind 1 2 0; default 1 2; port 0 1; link anchor 0 starts; set 0 1420`.
-/// A link may end with a guard (`guard 0`); its owner is node 0.
+/// A link may end with a guard (`guard 0`); its owner is node 0, or the node named as in `link in 2
+/// key 0`.
 pub fn document(text: &str) -> Vec<u8> {
     records(text).iter().flat_map(|words| document_record(words)).collect()
 }
@@ -80,20 +81,25 @@ fn document_record(words: &[&str]) -> Vec<u8> {
         ["bind", switch, child, rule] => vec![6, byte(switch), byte(child), byte(rule)],
         ["default", switch, child] => vec![6, byte(switch), byte(child), 255],
         ["port", context, child] => vec![7, byte(context), byte(child)],
-        ["link", "key", code] => vec![8, 0, 4, byte(code), 1, 255],
-        ["link", "key", code, "guard", rule] => vec![8, 0, 4, byte(code), 1, byte(rule)],
-        ["link", class, subject, transition] => link(class, subject, transition, "255"),
-        ["link", class, subject, transition, "guard", rule] => {
-            link(class, subject, transition, rule)
-        }
+        ["link", "in", owner, event @ .., "guard", rule] => link(owner, event, rule),
+        ["link", "in", owner, event @ ..] => link(owner, event, "255"),
+        ["link", event @ .., "guard", rule] => link("0", event, rule),
+        ["link", event @ ..] => link("0", event, "255"),
         _ => join(&[9], &[&action(words)]),
     }
 }
 
-fn link(class: &str, subject: &str, transition: &str, guard: &str) -> Vec<u8> {
-    let class = 1 + place(&["node", "anchor", "property"], class);
-    let transition = 1 + place(&["starts", "stops", "aborts", "pauses", "resumes"], transition);
-    vec![8, 0, class, byte(subject), transition, byte(guard)]
+fn link(owner: &str, event: &[&str], guard: &str) -> Vec<u8> {
+    let (class, subject, transition) = match event {
+        ["key", code] => (4, code, 1),
+        [class, subject, transition] => {
+            let names = ["starts", "stops", "aborts", "pauses", "resumes"];
+            let class = 1 + place(&["node", "anchor", "property"], class);
+            (class, subject, 1 + place(&names, transition))
+        }
+        _ => panic!("unknown event {event:?}"),
+    };
+    vec![8, byte(owner), class, byte(subject), transition, byte(guard)]
 }
 
 fn script_record(words: &[&str]) -> Vec<u8> {

@@ -81,11 +81,15 @@ def main():
     text = open(path, encoding="utf-8").read()
     open(path, "w", encoding="utf-8").write(re.sub(r"\bfrom_start\b", "from_start_lem", text))
     for path in files(".antt", ".rt", ".edit"):
-        old = open(path, encoding="utf-8").read()
+        old, here = open(path, encoding="utf-8").read(), new_of
+        # a lemma of a library that has the name of one of ours stays
+        for module, names in re.findall(r"^use (\S+)\.\{([^}]*)\}", old, re.M):
+            if not os.path.isdir("crates/" + (module.split(".") + [""])[1]):
+                here = {name: new for name, new in here.items() if name not in names.split(", ")}
         if path.endswith(".rt"):
-            new = RUST.sub(lambda m: new_of.get(m.group(0), m.group(0)), old)
+            new = RUST.sub(lambda m: here.get(m.group(0), m.group(0)), old)
         else:
-            new = ANTT.sub(lambda m: new_of.get(m.group(0), (EDITS if path.endswith(".edit") else {}).get(m.group(0), m.group(0))), old)
+            new = ANTT.sub(lambda m: here.get(m.group(0), (EDITS if path.endswith(".edit") else {}).get(m.group(0), m.group(0))), old)
         if new != old:
             open(path, "w", encoding="utf-8").write(new)
             changed += 1

@@ -4,7 +4,7 @@ use mathlib.Core.Bool.{Bool, true, false, not, ◌&&◌, and_assoc}
 use mathlib.Core.List.{List, [], ◌∷◌}
 use Prim.Native.Nat.{ℕ, zero, suc, ◌+◌, ◌-◌, ◌≤◌}
 use native.Mathlib.Omega.{arith}
-use borrow.Author.Tests.{ltb-true, ltb-false, eqb-true, not_false}
+use borrow.Author.Tests.{ltb-true, ltb-false, eqb-true, not-false}
 use lib.ListN.{get_or, drop}
 use lib.Seq.{get_or-drop}
 use Rattle.base.specs.Tests.{by_test, both_pass, ◌=?◌, ◌<?◌}
@@ -41,7 +41,7 @@ used d {b} obey ends passed = record {
     gone : (l : ℕ) → d.links.count ≤ l → get_or d.links.action_counts l 0 ≡ 0
     gone l h =
         let s : d.links.count + (l - d.links.count) ≡ l = omega arith in
-        let zeros = each_of (zero_from d.links.count) (numbers []) (none d.links.count) (link_table d.links).columns (sym ends ∙ not_false b passed) 5 in
+        let zeros = each_of (zero_from d.links.count) (numbers []) (none d.links.count) (link_table d.links).columns (sym ends ∙ not-false b passed) 5 in
         let zero = each_of (λ x. x =? 0) 0 refl (drop d.links.count d.links.action_counts) zeros (l - d.links.count) in
         eqb-true _ 0 (rw (get_or-drop d.links.count d.links.action_counts (l - d.links.count) 0, s) at zero)
 

@@ -7,7 +7,7 @@ use mathlib.Core.Logic.{◌⊎◌, inl, inr, ⊎_elim}
 use mathlib.Core.Path.{◌≡◌, refl, sym, ◌∙◌}
 use lib.Dec.{lit<}
 use lib.IntN.{pos}
-use borrow.Author.Tests.{eqb-true, eqb-false, ne_eqb, not_true, not_false}
+use borrow.Author.Tests.{eqb-true, eqb-false, ne_eqb, not-true, not-false}
 use Rattle.base.specs.Tests.{if◌then◌else◌, ◌=?◌, no_fault}
 use Rattle.machine.specs.Answers.{accepted}
 use Rattle.machine.specs.Log.{slice_with, lines_of}
@@ -46,7 +46,7 @@ pub command_applicable : (d : Document) (a : ActionRecord) → command_fault d a
 unfolding command_fault
 command_applicable d a e =
     let right = no_fault _ 9 _ (lit< tt) e in
-    applicable d a (not_false _ right.0) (not_false _ (no_fault _ 10 _ (lit< tt) right.1).0)
+    applicable d a (not-false _ right.0) (not-false _ (no_fault _ 10 _ (lit< tt) right.1).0)
 
 abbrev accepted_run : Session → ℕ → Run → CallResult
 accepted_run s bytes r = record {
@@ -66,9 +66,9 @@ pub call_gives : (s : Session) (c : Call) (bytes : ℕ) (P : CallResult → Type
 unfolding call_admitting ended goes_on
 call_gives s c bytes P refused kept =
     chosen P _ (λ b. refused 13 (λ e. omega arith) (λ _. inl b))
-    (λ _. chosen P _ (λ f. refused _ (eqb-false _ _ (not_true _ f)) (λ q. absurd (argument_not_13 s.document c q)))
+    (λ _. chosen P _ (λ f. refused _ (eqb-false _ _ (not-true _ f)) (λ q. absurd (argument_not_13 s.document c q)))
     (λ f.
-    let right = eqb-true _ _ (not_false _ f) in
+    let right = eqb-true _ _ (not-false _ f) in
     chosen P _ (λ e. kept right (eqb-true _ _ e)) (λ e. refused _ (eqb-false _ _ e) (λ q. inr (right, q)))))
 
 -- the lines so far, and those of a call

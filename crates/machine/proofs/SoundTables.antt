@@ -7,7 +7,7 @@ use mathlib.Core.Logic.{⊎_elim}
 use mathlib.Core.Path.{◌≡◌, refl, sym, ◌∙◌}
 use lib.Dec.{lit<}
 use lib.IntN.{ℤ}
-use borrow.Author.Tests.{eqb-true, eqb-false, eq-eqb, ne_eqb, ltb-true, leb-true, leb-false, not_true, not_false}
+use borrow.Author.Tests.{eqb-true, eqb-false, eq-eqb, ne_eqb, ltb-true, leb-true, leb-false, not-true, not-false}
 use Rattle.base.specs.Tests.{if◌then◌else◌, ◌=?◌, ◌<?◌, ◌≤?◌, by_test, both_pass, one_passes, no_fault}
 use Rattle.base.specs.Loops.{every, every_each, first, first_found}
 use Rattle.machine.specs.Terms.{context, media, switch, to_set, simple_rule, composite_rule, no_id}
@@ -39,7 +39,7 @@ unfolding node_fault
 node_passes nodes id r e =
     let a = no_fault _ 4 _ (lit< tt) e in
     let b = no_fault _ 5 _ (lit< tt) a.1 in
-    record { few = a.0; fields = not_false _ b.0; parent = not_false _ (no_fault _ 6 _ (lit< tt) b.1).0 }
+    record { few = a.0; fields = not-false _ b.0; parent = not-false _ (no_fault _ 6 _ (lit< tt) b.1).0 }
 
 pub record AnchorPasses (nodes : Nodes) (id : ℕ) (r : AnchorRecord) : Type 0 where
   pub few : 128 ≤? id ≡ false
@@ -53,7 +53,7 @@ anchor_passes nodes id r e =
     let a = no_fault _ 4 _ (lit< tt) e in
     let b = no_fault _ 5 _ (lit< tt) a.1 in
     let c = no_fault _ 6 _ (lit< tt) b.1 in
-    record { few = a.0; span = not_false _ b.0; owner = not_false _ c.0; within = not_false _ (no_fault _ 7 _ (lit< tt) c.1).0 }
+    record { few = a.0; span = not-false _ b.0; owner = not-false _ c.0; within = not-false _ (no_fault _ 7 _ (lit< tt) c.1).0 }
 
 pub property_passes : (id : ℕ) → property_fault id ≡ 0 → 32 ≤? id ≡ false
 unfolding property_fault
@@ -70,8 +70,8 @@ rule_passes properties id r e =
     let a = no_fault _ 4 _ (lit< tt) e in
     record {
       few = a.0;
-      simple = λ k. let b = no_fault _ 5 _ (lit< tt) (rw k at a.1) in (b.0, not_false _ (no_fault _ 6 _ (lit< tt) b.1).0);
-      composite = λ k. let b = no_fault _ 5 _ (lit< tt) (rw k at a.1) in (b.0, not_false _ (no_fault _ 6 _ (lit< tt) b.1).0);
+      simple = λ k. let b = no_fault _ 5 _ (lit< tt) (rw k at a.1) in (b.0, not-false _ (no_fault _ 6 _ (lit< tt) b.1).0);
+      composite = λ k. let b = no_fault _ 5 _ (lit< tt) (rw k at a.1) in (b.0, not-false _ (no_fault _ 6 _ (lit< tt) b.1).0);
     }
 
 pub record BindPasses (d : Document) (id : ℕ) (r : BindRecord) : Type 0 where
@@ -86,7 +86,7 @@ bind_passes d id r e =
     let a = no_fault _ 4 _ (lit< tt) e in
     let b = no_fault _ 6 _ (lit< tt) a.1 in
     let c = no_fault _ 7 _ (lit< tt) b.1 in
-    record { few = a.0; ids = not_false _ b.0; child = not_false _ c.0; default = (no_fault _ 7 _ (lit< tt) c.1).0 }
+    record { few = a.0; ids = not-false _ b.0; child = not-false _ c.0; default = (no_fault _ 7 _ (lit< tt) c.1).0 }
 
 pub record PortPasses (d : Document) (id : ℕ) (r : PortRecord) : Type 0 where
   pub few : 64 ≤? id ≡ false
@@ -100,7 +100,7 @@ port_passes d id r e =
     let a = no_fault _ 4 _ (lit< tt) e in
     let b = no_fault _ 6 _ (lit< tt) a.1 in
     let c = no_fault _ 7 _ (lit< tt) b.1 in
-    record { few = a.0; ids = not_false _ b.0; child = not_false _ c.0; once = (no_fault _ 7 _ (lit< tt) c.1).0 }
+    record { few = a.0; ids = not-false _ b.0; child = not-false _ c.0; once = (no_fault _ 7 _ (lit< tt) c.1).0 }
 
 pub record LinkPasses (d : Document) (id : ℕ) (r : LinkRecord) : Type 0 where
   pub few : 64 ≤? id ≡ false
@@ -112,7 +112,7 @@ unfolding link_fault
 link_passes d id r e =
     let a = no_fault _ 4 _ (lit< tt) e in
     let b = no_fault _ 5 _ (lit< tt) a.1 in
-    record { few = a.0; fields = not_false _ b.0; ids = not_false _ (no_fault _ 6 _ (lit< tt) b.1).0 }
+    record { few = a.0; fields = not-false _ b.0; ids = not-false _ (no_fault _ 6 _ (lit< tt) b.1).0 }
 
 pub record ActionPasses (d : Document) (id : ℕ) (r : ActionRecord) : Type 0 where
   pub few : 8 ≤? id ≡ false
@@ -124,7 +124,7 @@ unfolding action_fault
 action_passes d id r e =
     let a = no_fault _ 4 _ (lit< tt) e in
     let b = no_fault _ 5 _ (lit< tt) a.1 in
-    record { few = a.0; fields = not_false _ b.0; ids = not_false _ (no_fault _ 6 _ (lit< tt) b.1).0 }
+    record { few = a.0; fields = not-false _ b.0; ids = not-false _ (no_fault _ 6 _ (lit< tt) b.1).0 }
 
 -- ---- tables that obey: the entries of d pass, asked against the tables of e
 
@@ -218,7 +218,7 @@ module _ (d : Document) (o : Obeyed d) where
   unfolding parent_right if◌then◌else◌
   parent_of_lem n z h =
       let p = both_pass _ _ (rw (ne_eqb n 0 (λ e. omega arith)) at (t.nodes n h).parent) in
-      (ltb-true _ _ p.0, not_true _ p.1)
+      (ltb-true _ _ p.0, not-true _ p.1)
 
   record Fields (n : ℕ) : Type 0 where
     type : type_of d.nodes n ≤ switch

@@ -4,7 +4,7 @@ use native.Mathlib.Omega.{arith}
 use mathlib.Core.Bool.{true, false, ◌&&◌, ◌||◌, true≢false, and-false}
 use mathlib.Core.Logic.{⊎_elim}
 use mathlib.Core.Path.{◌≡◌, sym, ◌∙◌}
-use borrow.Author.Tests.{eqb-true, eqb-false, eq-eqb, ne_eqb, lt-ltb, le-leb, ltb-true, leb-true, not_false}
+use borrow.Author.Tests.{eqb-true, eqb-false, eq-eqb, ne_eqb, lt-ltb, le-leb, ltb-true, leb-true, not-false}
 use Rattle.base.specs.Tests.{if◌then◌else◌, ◌=?◌, ◌<?◌, by_test, both_pass, pass_both, one_passes}
 use Rattle.base.specs.Loops.{every, every_each, each_every}
 use Rattle.machine.specs.Tables.{is_media, duration_of}
@@ -98,7 +98,7 @@ pub record WholeTests (s : Session) : Type 0 where
 pub whole : (s : Session) → broken s ≡ false → WholeTests s
 unfolding broken
 whole s e =
-    let a = both_pass _ _ (not_false _ e) in
+    let a = both_pass _ _ (not-false _ e) in
     let b = both_pass _ _ a.0 in
     let c = both_pass _ _ b.0 in
     let f = both_pass _ _ c.0 in

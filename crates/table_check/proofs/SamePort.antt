@@ -3,7 +3,7 @@ use mathlib.Core.Path.{◌≡◌, refl, sym}
 use mathlib.Core.Bool.{Bool, true, false, ◌&&◌, ◌||◌}
 use Prim.Native.Nat.{ℕ, zero, suc}
 use native.Mathlib.Omega.{arith}
-use borrow.Author.Tests.{eqb-true, not_false}
+use borrow.Author.Tests.{eqb-true, not-false}
 use Rattle.base.specs.Tests.{by_test, no_fault, both_pass, ◌=?◌}
 use Rattle.base.specs.Loops.{some, every}
 use Rattle.machine.specs.declared.Document.{Document}
@@ -24,7 +24,7 @@ port_parent d p e =
     let g = no_fault _ 4 _ (omega arith) f in
     let h = no_fault _ 6 _ (omega arith) g.1 in
     let i = no_fault _ 7 _ (omega arith) h.1 in
-    eqb-true _ _ (not_false _ i.0)
+    eqb-true _ _ (not-false _ i.0)
 
 pub same_port : (d : Document) (r : PortRecord) (i : ℕ) → every (port_obeys d) i ≡ true
     → some (is_port d.ports r) i ≡ (some (is_port_of d.ports r.child) i && parent_of d.nodes r.child =? r.context)

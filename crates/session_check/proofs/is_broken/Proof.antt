@@ -1,7 +1,7 @@
 -- `session_check::is_broken` meets its contract. Assumes nothing.
 use mathlib.Core.Path.{refl, sym, ◌∙◌}
 use borrow.Author.Rules.{rules}
-use borrow.Author.Tests.{not_true, not_false}
+use borrow.Author.Tests.{not-true, not-false}
 use Rattle.machine.specs.Broken.{broken}
 use Rattle.machine.proofs.SoundTables.{sound}
 use Rattle.session_check.proofs.is_broken.Statement.{statement}
@@ -15,15 +15,15 @@ is-broken-spec =
     (λ c κs. search rules)  -- tables-obey-requires
     (λ c.
     let the-tables-obey = c.before.tables-obey in
-    rw (← the-tables-obey.ensures, not_true the-tables-obey.result c.if1.true))  -- returns
+    rw (← the-tables-obey.ensures, not-true the-tables-obey.result c.if1.true))  -- returns
     (λ c κs.
-    sym c.before.tables-obey.ensures ∙ not_false _ c.if1.false)  -- document-ends-zero-requires
+    sym c.before.tables-obey.ensures ∙ not-false _ c.if1.false)  -- document-ends-zero-requires
     (λ c κs. search rules)  -- state-ends-zero-requires
     (λ c κs.
-    sym c.before.before.before.tables-obey.ensures ∙ not_false _ c.before.before.if1.false)  -- states-right-requires
+    sym c.before.before.before.tables-obey.ensures ∙ not-false _ c.before.before.if1.false)  -- states-right-requires
     (λ c κs.
-    (sound _ (sym c.before.before.before.before.before.before.before.before.before.tables-obey.ensures ∙ not_false _ c.before.before.before.before.before.before.before.before.if1.false)).nodes.few)  -- choices-right-requires
+    (sound _ (sym c.before.before.before.before.before.before.before.before.before.tables-obey.ensures ∙ not-false _ c.before.before.before.before.before.before.before.before.if1.false)).nodes.few)  -- choices-right-requires
     (λ c.
     let the-tables-obey = c.before.before.before.before.before.before.before.before.before.before.tables-obey in
-    rw (← the-tables-obey.ensures, not_false the-tables-obey.result c.before.before.before.before.before.before.before.before.before.if1.false, ← c.before.before.before.before.before.before.before.before.document-ends-zero.ensures, ← c.before.before.before.before.before.before.before.state-ends-zero.ensures, ← c.before.before.before.before.before.before.states_right_lem.ensures, ← c.choices_right_lem.ensures c.before.before.before.before.before.before.before.before.before.before.before.before.before.args.s.document.nodes refl refl refl))  -- returns-2
+    rw (← the-tables-obey.ensures, not-false the-tables-obey.result c.before.before.before.before.before.before.before.before.before.if1.false, ← c.before.before.before.before.before.before.before.before.document-ends-zero.ensures, ← c.before.before.before.before.before.before.before.state-ends-zero.ensures, ← c.before.before.before.before.before.before.states_right_lem.ensures, ← c.choices_right_lem.ensures c.before.before.before.before.before.before.before.before.before.before.before.before.before.args.s.document.nodes refl refl refl))  -- returns-2
     )

@@ -10,7 +10,7 @@ use Rattle.std.proofs.Math.Nat.{sub-zero}
 use Rattle.std.proofs.Math.Numerals.{add-one, sub-one}
 use native.Mathlib.Omega.{arith}
 use borrow.Author.Tests.{leb-true, leb-false}
-use Rattle.base.specs.Tests.{if◌then◌else◌, ◌≤?◌, by_test, both_pass, pass_both}
+use Rattle.base.specs.Tests.{when◌then◌else◌, ◌≤?◌, by_test, both_pass, pass_both}
 
 -- ---- definitions
 
@@ -38,17 +38,17 @@ every test (suc k) = every test k && test k
 -- the first of i, i + 1, .. that passes the test, among so many; the number past them where none does
 unfoldable pub first : (ℕ → Bool) → ℕ → ℕ → ℕ
 first test zero i = i
-first test (suc k) i = if test i then i else first test k (i + 1)
+first test (suc k) i = when test i then i else first test k (i + 1)
 
 -- one past the last id below n that passes the test; 0 where none does
 unfoldable pub past_last : (ℕ → Bool) → ℕ → ℕ
 past_last test zero = 0
-past_last test (suc k) = if test k then suc k else past_last test k
+past_last test (suc k) = when test k then suc k else past_last test k
 
 -- how many ids below n pass the test
 unfoldable pub passing : (ℕ → Bool) → ℕ → ℕ
 passing test zero = 0
-passing test (suc k) = passing test k + (if test k then 1 else 0)
+passing test (suc k) = passing test k + (when test k then 1 else 0)
 
 -- ---- laws of `ascending`: before the first turn, one turn, the end; and turns that change nothing
 
@@ -96,6 +96,7 @@ module _ {A : Type 0} (step : ℕ → A → A) where
 
   pub descending_more : (k : ℕ) {x y z : A} → 0 < k → descending step k x ≡ z → y ≡ step (k - 1) x → descending step (k - 1) y ≡ z
   unfolding descending
+  descending_more zero {y = y} {z = z} h p q = elim h [ ]
   descending_more (suc k) h p q = rw sub-one (ap (descending step k) (simp sub-one at q) ∙ p)
 
   pub descending_done : (k : ℕ) (x : A) {z : A} → k ≡ 0 → descending step k x ≡ z → x ≡ z
@@ -109,13 +110,13 @@ first_none test n = rw sub-zero
 
 module _ (test : ℕ → Bool) (n i : ℕ) {x : ℕ} (h : x ≡ first test (n - i) i) where
   pub first_skip : i < n → test i ≡ false → x ≡ first test (n - (i + 1)) (i + 1)
-  unfolding first if◌then◌else◌
+  unfolding first when◌then◌else◌
   first_skip l e =
       let s : n - i ≡ suc (n - (i + 1)) = omega arith in
       h ∙ rw (s, e)
 
   pub first_hit : i < n → test i ≡ true → i ≡ x
-  unfolding first if◌then◌else◌
+  unfolding first when◌then◌else◌
   first_hit l e =
       let s : n - i ≡ suc (n - (i + 1)) = omega arith in
       sym (h ∙ rw (s, e))
@@ -127,13 +128,13 @@ module _ (test : ℕ → Bool) (n i : ℕ) {x : ℕ} (h : x ≡ first test (n - 
       sym (h ∙ rw s)
 
 pub first_found : (test : ℕ → Bool) (k i : ℕ) → first test k i < i + k → test (first test k i) ≡ true
-unfolding first if◌then◌else◌
+unfolding first when◌then◌else◌
 first_found test zero i h = absurd (omega arith)
 first_found test (suc k) i h =
     by_test (test i) (λ e. rw (e, e)) (λ e. rw e (first_found test k (i + 1) (omega (arith, rw e at h))))
 
 first_least : (test : ℕ → Bool) (k i j : ℕ) → i ≤ j → j < i + k → test j ≡ true → first test k i ≤ j
-unfolding first if◌then◌else◌
+unfolding first when◌then◌else◌
 first_least test zero i j l h e = absurd (omega arith)
 first_least test (suc k) i j l h e =
     by_test (test i)
@@ -145,12 +146,12 @@ first_least test (suc k) i j l h e =
 
 module _ (test : ℕ → Bool) where
   pub past_last_most : (n : ℕ) → past_last test n ≤ n
-  unfolding past_last if◌then◌else◌
+  unfolding past_last when◌then◌else◌
   past_last_most zero = omega arith
   past_last_most (suc n) = by_test (test n) (λ e. rw e (omega arith)) (λ e. rw e (omega (arith, past_last_most n)))
 
   pub past_last_none : (n k : ℕ) → past_last test n ≤ k → k < n → test k ≡ false
-  unfolding past_last if◌then◌else◌
+  unfolding past_last when◌then◌else◌
   past_last_none zero k l h = absurd (omega arith)
   past_last_none (suc n) k l h =
       let m : k ≤ n = omega arith in
@@ -165,7 +166,7 @@ module _ (test : ℕ → Bool) where
   unfolding passing
   passing_none = refl
 
-  pub passing_more : (i : ℕ) {x y : ℕ} {b : Bool} → x ≡ passing test i → b ≡ test i → y ≡ x + (if b then 1 else 0) → y ≡ passing test (i + 1)
+  pub passing_more : (i : ℕ) {x y : ℕ} {b : Bool} → x ≡ passing test i → b ≡ test i → y ≡ x + (when b then 1 else 0) → y ≡ passing test (i + 1)
   unfolding passing
   passing_more i p q e = rw (add-one, ← p, ← q) e
 
@@ -173,12 +174,12 @@ module _ (test : ℕ → Bool) where
   passing_done i n e p = rw (← e) p
 
   pub passing_most : (n : ℕ) → passing test n ≤ n
-  unfolding passing if◌then◌else◌
+  unfolding passing when◌then◌else◌
   passing_most zero = omega arith
   passing_most (suc n) = by_test (test n) (λ e. rw e (omega (arith, passing_most n))) (λ e. rw e (omega (arith, passing_most n)))
 
   pub none_passing : (n : ℕ) → passing test n ≡ 0 → (k : ℕ) → k < n → test k ≡ false
-  unfolding passing if◌then◌else◌
+  unfolding passing when◌then◌else◌
   none_passing zero e k h = absurd (omega arith)
   none_passing (suc n) e k h =
       let l : k ≤ n = omega arith in
@@ -188,7 +189,7 @@ module _ (test : ℕ → Bool) where
 
   -- one of those that pass
   found_passing : (n : ℕ) → 0 < passing test n → (k : ℕ) × (k < n) × (test k ≡ true)
-  unfolding passing if◌then◌else◌
+  unfolding passing when◌then◌else◌
   found_passing zero h = absurd (omega arith)
   found_passing (suc n) h =
       by_test (test n)
@@ -196,7 +197,7 @@ module _ (test : ℕ → Bool) where
       (λ p. let f = found_passing n (omega (arith, rw p at h)) in (f.0, omega arith, f.2))
 
   same_passing : (n : ℕ) → passing test n ≡ 1 → (j k : ℕ) → j < n → k < n → test j ≡ true → test k ≡ true → j ≡ k
-  unfolding passing if◌then◌else◌
+  unfolding passing when◌then◌else◌
   same_passing zero e j k hj hk tj tk = absurd (omega arith)
   same_passing (suc n) e j k hj hk tj tk =
       by_test (test n)

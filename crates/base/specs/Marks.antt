@@ -6,7 +6,7 @@ use Rattle.std.proofs.Common.{sym, ◌∙◌, add-zero, add-one, arith, get_or-s
 use Rattle.std.proofs.Math.Bool.{true, false, and-false, or-false}
 use borrow.Author.Tests.{eqb-true, eqb-false, eq-eqb}
 use Rattle.std.proofs.Math.ListN.{length-set, get_or-replicate}
-use Rattle.base.specs.Tests.{if◌then◌else◌, ◌=?◌, by_test}
+use Rattle.base.specs.Tests.{when◌then◌else◌, ◌=?◌, by_test}
 use Rattle.base.specs.Loops.{some, passing, passing_most, past_last, past_last_most}
 
 -- a table of one entry alone has it everywhere, past its end too
@@ -58,8 +58,8 @@ module _ (test : ℕ → ℕ → Bool) where
 
   -- an entry that passes the test of m alone, and only if `passes`
   pub numbered_more : (i m : ℕ) (numbers : List ℕ) (passes : Bool) (value : ℕ) → m < 256 → ((n : ℕ) → test n i ≡ (m =? n && passes))
-      → value ≡ get_or numbers m 0 + (if passes then 1 else 0) → Numbered test i numbers → Numbered test (i + 1) (set numbers m value)
-  unfolding passing if◌then◌else◌
+      → value ≡ get_or numbers m 0 + (when passes then 1 else 0) → Numbered test i numbers → Numbered test (i + 1) (set numbers m value)
+  unfolding passing when◌then◌else◌
   numbered_more i m numbers passes value h one e k = record {
     places = length-set numbers m value ∙ k.places;
     numbered = entry_stored 0 256 numbers m value (λ n. passing (test n) i) (λ n. passing (test n) (i + 1)) (omega (arith, k.places)) k.numbered
@@ -85,8 +85,8 @@ module _ (test : ℕ → ℕ → Bool) where
 
   -- an entry that passes the test of m alone, and only if `passes`
   pub found_more : (i m : ℕ) (table : List ℕ) (passes : Bool) → m < 64 → ((n : ℕ) → test n i ≡ (m =? n && passes))
-      → LastFound test i table → LastFound test (i + 1) (if passes then set table m (i + 1) else table)
-  unfolding past_last if◌then◌else◌
+      → LastFound test i table → LastFound test (i + 1) (when passes then set table m (i + 1) else table)
+  unfolding past_last when◌then◌else◌
   found_more i m table true h one k = record {
     places = length-set table m (i + 1) ∙ k.places;
     found = entry_stored 0 64 table m (i + 1) (λ n. past_last (test n) i) (λ n. past_last (test n) (i + 1)) (omega (arith, k.places)) k.found

@@ -21,10 +21,10 @@ equal_ints (pos a) (negsuc b) = false
 equal_ints (negsuc a) (pos b) = false
 equal_ints (negsuc a) (negsuc b) = eqb a b
 
-infixr 4 if◌then◌else◌
-unfoldable pub if◌then◌else◌ : {A : Type 0} → Bool → A → A → A
-if true then a else b = a
-if false then a else b = b
+infixr 4 when◌then◌else◌
+unfoldable pub when◌then◌else◌ : {A : Type 0} → Bool → A → A → A
+when true then a else b = a
+when false then a else b = b
 
 -- the two cases of a test, each with its equation
 pub by_test : {P : Type 0} (b : Bool) → (b ≡ true → P) → (b ≡ false → P) → P
@@ -44,8 +44,8 @@ one_passes true b e = inl refl
 one_passes false b e = inr e
 
 -- a choice that gives 0, and not by its first branch
-pub no_fault : (b : Bool) (fault other : ℕ) → 0 < fault → (if b then fault else other) ≡ 0 → (b ≡ false) × (other ≡ 0)
-unfolding if◌then◌else◌
+pub no_fault : (b : Bool) (fault other : ℕ) → 0 < fault → (when b then fault else other) ≡ 0 → (b ≡ false) × (other ≡ 0)
+unfolding when◌then◌else◌
 no_fault true fault other h e = absurd (omega arith)
 no_fault false fault other h e = (refl, e)
 

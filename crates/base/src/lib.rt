@@ -1,4 +1,6 @@
 // What every crate uses. Its definitions and laws are in specs/: tests, choices, and loops over ids.
+#![tactic(auto)]
+
 ghost use Rattle.std.specs.Prelude.{◌≡◌, ◌<◌};
 
 // A byte as an index.

@@ -8,7 +8,7 @@ use mathlib.Core.Path.{◌≡◌, refl, sym, ◌∙◌}
 use lib.Dec.{lit<}
 use lib.IntN.{pos}
 use borrow.Author.Tests.{eqb-true, eqb-false, ne_eqb, not-true, not-false}
-use Rattle.base.specs.Tests.{if◌then◌else◌, ◌=?◌, no_fault}
+use Rattle.base.specs.Tests.{when◌then◌else◌, ◌=?◌, no_fault}
 use Rattle.machine.specs.Answers.{accepted}
 use Rattle.machine.specs.Log.{slice_with, lines_of}
 use Rattle.machine.specs.Events.{Run}
@@ -73,7 +73,7 @@ call_gives s c bytes P refused kept =
 
 -- the lines so far, and those of a call
 abbrev pub lines_after : List Line → CallResult → List Line
-lines_after h r = h ++ (if r.answer.refusal =? 0 then lines_of r.log else [])
+lines_after h r = h ++ (when r.answer.refusal =? 0 then lines_of r.log else [])
 
 -- ---- the run of a call on a session that is not broken
 
@@ -101,7 +101,7 @@ module _ (s : Session) (unbroken : broken s ≡ false) where
 
   -- what a call does before the chain leaves the value of p, if it is no command that sets it
   pub begun_value : (p : ℕ) (c : Call) → argument_fault d c ≡ 0 → command_sets p c ≡ false → (r : Run) → ShapedRun d r → value_of (begun d c r).state p ≡ value_of r.state p
-  unfolding begun argument_fault keyed command_sets if◌then◌else◌
+  unfolding begun argument_fault keyed command_sets when◌then◌else◌
   begun_value p (Command a) e n r k = acted_value d facts p a r (command_applicable d a e) k ∙ rw n
   begun_value p (Key code) e n r k = refl
   begun_value p Tick e n r k = ticked_value d facts p r
@@ -180,7 +180,7 @@ module _ (h : List Line) (s : Session) (invariant : Invariant h s) where
     tables : r.session.document ≡ s.document
 
   accepted_returns : (bytes : ℕ) (r : Run) → Kept r → r.log.stop ≡ 0 → Returned (accepted_run s bytes r)
-  unfolding if◌then◌else◌
+  unfolding when◌then◌else◌
   accepted_returns bytes r k f =
       let back = read_back r.log.lines bytes k.0.1.classed in
       record {
@@ -194,7 +194,7 @@ module _ (h : List Line) (s : Session) (invariant : Invariant h s) where
       }
 
   pub call_returns : (c : Call) (bytes : ℕ) → Returned (call s c bytes)
-  unfolding call_refused if◌then◌else◌
+  unfolding call_refused when◌then◌else◌
   call_returns c bytes =
       call_gives s c bytes Returned
       (λ number z t. record {

@@ -6,7 +6,7 @@ use mathlib.Core.List.{List, [], ◌∷◌, ◌++◌, append_assoc, append-nil}
 use mathlib.Core.Path.{◌≡◌, refl, ◌∙◌}
 use lib.IntN.{ℤ}
 use borrow.Author.Tests.{ne_eqb}
-use Rattle.base.specs.Tests.{if◌then◌else◌}
+use Rattle.base.specs.Tests.{when◌then◌else◌}
 use Rattle.machine.specs.Terms.{no_id}
 use Rattle.machine.specs.Load.{load}
 use Rattle.machine.specs.Operations.{argument_fault, command_sets, run_admitting, run_of, call_refused, call, session_after, results_of, joined}
@@ -64,7 +64,7 @@ module _ (m p : ℕ) (before : ℤ) (h : List Line) (s : Session) (invariant : I
   -- ---- what a call returns
 
   call_still : (c : Call) (bytes : ℕ) → ((call s c bytes).answer.refusal ≡ 0 → command_sets p c ≡ false) → Counting m p before (lines_after h (call s c bytes)) (call s c bytes).session
-  unfolding call_refused if◌then◌else◌
+  unfolding call_refused when◌then◌else◌
   call_still c bytes =
       call_gives s c bytes (λ r. (r.answer.refusal ≡ 0 → command_sets p c ≡ false) → Counting m p before (lines_after h r) r.session)
       (λ number z _ _. rw (ne_eqb number 0 z, append-nil) counting)
@@ -87,7 +87,7 @@ counting_after m p before ((c, bytes) ∷ calls) h s invariant counting n =
 
 loaded_counting : (bytes : List ℕ) → (load bytes).answer.refusal ≡ 0 → (m p : ℕ) → shows_counts (load bytes).session.document m p ≡ true
     → Counting m p (value_of (load bytes).session.state p) [] (load bytes).session
-unfolding last_count last_started if◌then◌else◌ session_after results_of joined number
+unfolding last_count last_started when◌then◌else◌ session_after results_of joined number
 loaded_counting bytes e m p shown = record {
   shown = shown;
   value = refl;
@@ -96,7 +96,7 @@ loaded_counting bytes e m p shown = record {
 
 -- THE THEOREM
 pub counts : CountsForEveryList
-unfolding last_count if◌then◌else◌
+unfolding last_count when◌then◌else◌
 counts bytes e m p shown calls n =
     let s = (load bytes).session in
     let holds = demand_3 bytes e calls in

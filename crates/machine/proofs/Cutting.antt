@@ -5,7 +5,7 @@ use mathlib.Core.List.{List, [], ◌∷◌}
 use mathlib.Core.Path.{◌≡◌, refl}
 use native.Mathlib.Omega.{arith}
 use borrow.Author.Tests.{eqb-true, eqb-false}
-use Rattle.base.specs.Tests.{if◌then◌else◌, ◌=?◌}
+use Rattle.base.specs.Tests.{when◌then◌else◌, ◌=?◌}
 use Rattle.machine.specs.Terms.{simple_rule, composite_rule}
 use Rattle.machine.specs.Records.{simple_rule_of, composite_rule_of, record_of, record_fault}
 use Rattle.machine.specs.Load.{OrFault, good, faulty, and_then, unless, cut_at, cut, checked}
@@ -47,14 +47,14 @@ RuleShaped (Link r) = Unit {0}
 RuleShaped (Action r) = Unit {0}
 
 simple_shaped : (body : List ℕ) → RuleShaped (Rule (simple_rule_of body))
-unfolding RuleShaped rule_unused_zero if◌then◌else◌
+unfolding RuleShaped rule_unused_zero when◌then◌else◌
 simple_shaped body = (refl, refl)
 
 composite_shaped : (body : List ℕ) → RuleShaped (Rule (composite_rule_of body))
-unfolding RuleShaped rule_unused_zero if◌then◌else◌
+unfolding RuleShaped rule_unused_zero when◌then◌else◌
 composite_shaped body = (refl, refl)
 
-either_shaped : (b : Bool) (x y : Record) → RuleShaped x → RuleShaped y → RuleShaped (if b then x else y)
+either_shaped : (b : Bool) (x y : Record) → RuleShaped x → RuleShaped y → RuleShaped (when b then x else y)
 either_shaped b x y p q = chosen RuleShaped b (λ _. p) (λ _. q)
 
 shaped : (kind : ℕ) (body : List ℕ) → RuleShaped (record_of kind body)

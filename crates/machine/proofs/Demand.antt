@@ -5,7 +5,7 @@ use mathlib.Core.Bool.{Bool, true, false, ◌&&◌, true≢false}
 use mathlib.Core.List.{List, []}
 use mathlib.Core.Path.{◌≡◌, refl, sym, ◌∙◌}
 use borrow.Author.Tests.{eqb-true, eq-eqb, ne_eqb, lt-ltb, le-leb, ltb-true, leb-true}
-use Rattle.base.specs.Tests.{if◌then◌else◌, ◌=?◌, ◌<?◌, ◌≤?◌, by_test, both_pass, pass_both}
+use Rattle.base.specs.Tests.{when◌then◌else◌, ◌=?◌, ◌<?◌, ◌≤?◌, by_test, both_pass, pass_both}
 use Rattle.base.specs.Loops.{some, some_one, one_some}
 use Rattle.machine.specs.Terms.{sleeping, occurring, paused}
 use Rattle.machine.specs.Tables.{parent_of, anchor_at}
@@ -45,7 +45,7 @@ module _ (d : Document) (s : State) (c : ℕ) where
   no_child_lem state e k = true≢false (sym (child_some state k) ∙ e)
 
   composite_rule_lem : node_state s c ≡ children_state d.nodes s.nodes.states c → CompositeRule d s c
-  unfolding children_state if◌then◌else◌
+  unfolding children_state when◌then◌else◌
   composite_rule_lem e =
       by_test (some (test occurring) d.nodes.count)
       (λ o.
@@ -71,7 +71,7 @@ module _ (d : Document) (s : State) (c : ℕ) where
 -- ---- the anchor rule, from the state that the media gives
 
 pub anchor_rule : (d : Document) (s : State) (a : ℕ) → anchor_state s a ≡ anchor_state_in d s a → AnchorRule d s a
-unfolding anchor_state_in if◌then◌else◌
+unfolding anchor_state_in when◌then◌else◌
 anchor_rule d s a e =
     let begin = (anchor_at d.anchors a).begin in
     let end = (anchor_at d.anchors a).end in
@@ -95,7 +95,7 @@ anchor_rule d s a e =
 -- ---- the balance
 
 balanced : (class id state count : ℕ) (ls : List Line) → EventTallied class id state count ls → Balanced class id state ls
-unfolding one_if_awake if◌then◌else◌
+unfolding one_if_awake when◌then◌else◌
 balanced class id state count ls e = record {
   asleep = λ z. e.balances ∙ rw (eq-eqb state 0 z) (omega arith);
   awake = λ a. e.balances ∙ rw (ne_eqb state 0 a);

@@ -7,7 +7,7 @@ use mathlib.Core.Path.{◌≡◌, refl, sym, ap, ◌∙◌}
 use lib.ListN.{length, get_or, set, length-set}
 use lib.Seq.{get_or-set_same, get_or-set_other}
 use borrow.Author.Tests.{eqb-true, eqb-false, eq-eqb, ne_eqb}
-use Rattle.base.specs.Tests.{if◌then◌else◌, ◌=?◌, ◌≤?◌, by_test}
+use Rattle.base.specs.Tests.{when◌then◌else◌, ◌=?◌, ◌≤?◌, by_test}
 use Rattle.base.specs.Loops.{ascending_turns, ascending_through}
 use Rattle.machine.specs.Terms.{sleeping, to_abort, no_transition, starts}
 use Rattle.machine.specs.Tables.{anchor_at}
@@ -18,8 +18,8 @@ use Rattle.machine.specs.declared.Document.{Document}
 use Rattle.machine.proofs.Keep.{chosen}
 
 -- an entry, after one was set
-pub get_d_set : {A : Type 0} (xs : List A) (i j : ℕ) (x default : A) → i < length xs → get_or (set xs i x) j default ≡ (if i =? j then x else get_or xs j default)
-unfolding if◌then◌else◌
+pub get_d_set : {A : Type 0} (xs : List A) (i j : ℕ) (x default : A) → i < length xs → get_or (set xs i x) j default ≡ (when i =? j then x else get_or xs j default)
+unfolding when◌then◌else◌
 get_d_set xs i j x default h =
     by_test (i =? j) (λ e. rw (e, ← eqb-true i j e) (get_or-set_same xs i x default h)) (λ e. rw e (get_or-set_other xs i j x default (λ q. eqb-false i j e (sym q))))
 
@@ -28,12 +28,12 @@ get_d_set xs i j x default h =
 module _ (aborting : Bool) (old new : ℕ) where
   -- to the same state there is none
   transition_same : old ≡ new → transition aborting old new ≡ no_transition
-  unfolding transition if◌then◌else◌
+  unfolding transition when◌then◌else◌
   transition_same e = rw (eq-eqb old new e)
 
   -- it is a start exactly from sleeping to awake
   pub starting : transition aborting old new =? starts ≡ (old =? sleeping && awake new)
-  unfolding transition if◌then◌else◌
+  unfolding transition when◌then◌else◌
   starting =
       by_test (old =? new)
       (λ e. rw (e, eqb-true old new e) (by_test (new =? 0) (λ n. rw n) (λ n. rw n)))
@@ -49,7 +49,7 @@ module _ (aborting : Bool) (old new : ℕ) where
     stays : Awake old → Awake new → (clock : ℕ) → clocked (transition aborting old new) clock ≡ clock
 
   turned : (old ≡ new → ⊥) → Turned
-  unfolding transition clocked if◌then◌else◌
+  unfolding transition clocked when◌then◌else◌
   turned d =
       by_test (new =? sleeping)
       (λ n. by_test aborting
@@ -62,7 +62,7 @@ module _ (aborting : Bool) (old new : ℕ) where
       (λ b. record { some = rw (ne_eqb old new d, n, o, b); wakes = λ e. absurd (eqb-false _ _ o e); sleeps = λ e. absurd (eqb-false _ _ n e); stays = λ p q c. rw (ne_eqb old new d, n, o, b) })))
 
 clocked_zero : (change : ℕ) → clocked change 0 ≡ 0
-unfolding clocked if◌then◌else◌
+unfolding clocked when◌then◌else◌
 clocked_zero change = by_test (change ≤? 3) (λ e. rw e) (λ e. rw e)
 
 -- ---- a move of a node: states and clocks before and after
@@ -90,7 +90,7 @@ abbrev pub RunMoved : ℕ → ℕ → Run → Run → Type 0
 RunMoved n new x y = NodeMoved n new x.state.nodes.states x.state.nodes.clocks y.state.nodes.states y.state.nodes.clocks
 
 pub node_moves : (aborting : Bool) (n new : ℕ) (x : Run) → n < length x.state.nodes.states → n < length x.state.nodes.clocks → RunMoved n new x (node_to aborting n new x)
-unfolding node_to node_changed if◌then◌else◌
+unfolding node_to node_changed when◌then◌else◌
 node_moves aborting n new x h k =
     let old = node_state x.state n in
     let clock = node_clock x.state n in
@@ -125,23 +125,23 @@ node_leaves_anchors aborting n new x = chosen (λ (y : Run). y.state.anchors.sta
 
 module _ (choices : List ℕ) where
   node_any_choices : (aborting : Bool) (n new : ℕ) (r : Run) → node_to aborting n new (choices_set choices r) ≡ choices_set choices (node_to aborting n new r)
-  unfolding node_to node_changed if◌then◌else◌
+  unfolding node_to node_changed when◌then◌else◌
   node_any_choices aborting n new r = by_test (transition aborting (node_state r.state n) new =? no_transition) (λ e. rw e) (λ e. rw e)
 
   anchor_any_choices : (aborting : Bool) (a new : ℕ) (r : Run) → anchor_to aborting a new (choices_set choices r) ≡ choices_set choices (anchor_to aborting a new r)
-  unfolding anchor_to anchor_changed if◌then◌else◌
+  unfolding anchor_to anchor_changed when◌then◌else◌
   anchor_any_choices aborting a new r = by_test (transition aborting (anchor_state r.state a) new =? no_transition) (λ e. rw e) (λ e. rw e)
 
   module _ (anchors : Anchors) where
     anchors_any_choices : (moves : ℕ → ℕ → ℕ → Bool) (aborting : Bool) (n new : ℕ) (r : Run)
         → anchors_moved anchors moves aborting n new (choices_set choices r) ≡ choices_set choices (anchors_moved anchors moves aborting n new r)
-    unfolding anchors_moved anchor_moved if◌then◌else◌
+    unfolding anchors_moved anchor_moved when◌then◌else◌
     anchors_any_choices moves aborting n new r =
         ascending_through _ (choices_set choices) anchors.count r
         (λ a y. by_test ((anchor_at anchors a).media =? n && moves (anchor_at anchors a).begin (anchor_at anchors a).end (anchor_state y.state a)) (λ e. rw e (anchor_any_choices aborting a new y)) (λ e. rw e))
 
     pub media_any_choices : (action n : ℕ) (r : Run) → media_moved anchors action n (choices_set choices r) ≡ choices_set choices (media_moved anchors action n r)
-    unfolding media_moved media_to if◌then◌else◌
+    unfolding media_moved media_to when◌then◌else◌
     media_any_choices action n r =
         let old = node_state r.state n in
         let new = next_state old action in
@@ -162,7 +162,7 @@ record AnchorMoved (a new : ℕ) (x y : Run) : Type 0 where
   there : (j : ℕ) → (j ≡ a → ⊥) → anchor_state y.state j ≡ anchor_state x.state j
 
 anchor_moves : (aborting : Bool) (a new : ℕ) (x : Run) → AnchorMoved a new x (anchor_to aborting a new x)
-unfolding anchor_to anchor_changed if◌then◌else◌
+unfolding anchor_to anchor_changed when◌then◌else◌
 anchor_moves aborting a new x =
     let old = anchor_state x.state a in
     by_test (old =? new)
@@ -186,12 +186,12 @@ module _ (d : Document) (moves : ℕ → ℕ → ℕ → Bool) (n : ℕ) where
     pub states : y.state.nodes.states ≡ x.state.nodes.states
     pub clocks : y.state.nodes.clocks ≡ x.state.nodes.clocks
     pub len : length y.state.anchors.states ≡ length x.state.anchors.states
-    pub done : (a : ℕ) → a < k → anchor_state y.state a ≡ (if moving x a then new else anchor_state x.state a)
+    pub done : (a : ℕ) → a < k → anchor_state y.state a ≡ (when moving x a then new else anchor_state x.state a)
     pub rest : (a : ℕ) → k ≤ a → anchor_state y.state a ≡ anchor_state x.state a
 
   module _ (aborting : Bool) (new : ℕ) (x : Run) where
     one_passes : (k : ℕ) (y : Run) → k < length x.state.anchors.states → Passed new x k y → Passed new x (suc k) (anchor_moved d.anchors moves aborting n new k y)
-    unfolding anchor_moved moving if◌then◌else◌
+    unfolding anchor_moved moving when◌then◌else◌
     one_passes k y h m =
         let same : moving y k ≡ moving x k = rw (m.rest k (omega arith)) in
         by_test (moving y k)

@@ -5,7 +5,7 @@ use native.Mathlib.Omega.{arith}
 use mathlib.Core.Bool.{Bool, true, false, not, ◌&&◌, ◌||◌}
 use mathlib.Core.Path.{◌≡◌, refl, ap, ◌∙◌}
 use borrow.Author.Tests.{eq-eqb, lt-ltb, le-leb, lt-leb, ltb-true, leb-true}
-use Rattle.base.specs.Tests.{if◌then◌else◌, ◌=?◌, ◌<?◌, ◌≤?◌, by_test, both_pass, pass_both}
+use Rattle.base.specs.Tests.{when◌then◌else◌, ◌=?◌, ◌<?◌, ◌≤?◌, by_test, both_pass, pass_both}
 use Rattle.base.specs.Loops.{some, same_some, each_every, every}
 use Rattle.machine.specs.Terms.{context, media, switch, simple_rule, no_id}
 use Rattle.machine.specs.Tables.{type_of, parent_of, duration_of, given, node_at, bind_at, port_at}
@@ -46,8 +46,8 @@ or_more : (a b y : Bool) → (b ≡ true → y ≡ true) → a || b ≡ true →
 or_more true b y q e = refl
 or_more false b y q e = q e
 
-choice_more : (w a b x y : Bool) → (a ≡ true → x ≡ true) → (b ≡ true → y ≡ true) → (if w then a else b) ≡ true → (if w then x else y) ≡ true
-unfolding if◌then◌else◌
+choice_more : (w a b x y : Bool) → (a ≡ true → x ≡ true) → (b ≡ true → y ≡ true) → (when w then a else b) ≡ true → (when w then x else y) ≡ true
+unfolding when◌then◌else◌
 choice_more true a b x y p q e = p e
 choice_more false a b x y p q e = q e
 
@@ -70,7 +70,7 @@ module _ (d e : Document) (x : Extends d e) where
   none_or_more id = or_more (id =? no_id) (id <? d.rules.count) (id <? e.rules.count) (below_more id _ _ x.rules)
 
   pub node_more : (id : ℕ) (r : NodeRecord) → id ≤ d.nodes.count → NodePasses d.nodes id r → NodePasses e.nodes id r
-  unfolding parent_right if◌then◌else◌
+  unfolding parent_right when◌then◌else◌
   node_more id r h p = record {
     few = p.few;
     fields = p.fields;
@@ -133,14 +133,14 @@ carried d e x h = record {
 -- ---- so the tables obey
 
 rule_faultless : (properties id : ℕ) (r : RuleRecord) → RulePasses properties id r → rule_fault properties id r ≡ 0
-unfolding rule_fault simple_rule_fault composite_rule_fault if◌then◌else◌
+unfolding rule_fault simple_rule_fault composite_rule_fault when◌then◌else◌
 rule_faultless properties id r p =
     by_test (r.kind =? simple_rule)
     (λ k. rw (p.few, k, (p.simple k).0, (p.simple k).1))
     (λ k. rw (p.few, k, (p.composite k).0, (p.composite k).1))
 
 pub entries_obey : (d : Document) → Entries d d → 0 < d.limit → 0 < d.nodes.count → tables_obey d ≡ true
-unfolding tables_obey node_obeys anchor_obeys property_obeys rule_obeys bind_obeys port_obeys link_obeys action_obeys node_fault anchor_fault property_fault bind_fault port_fault link_fault action_fault if◌then◌else◌
+unfolding tables_obey node_obeys anchor_obeys property_obeys rule_obeys bind_obeys port_obeys link_obeys action_obeys node_fault anchor_fault property_fault bind_fault port_fault link_fault action_fault when◌then◌else◌
 entries_obey d h limit root =
     let all : (test : ℕ → Bool) (n : ℕ) → ((i : ℕ) → i < n → test i ≡ true) → every test n ≡ true = each_every in
     rw (

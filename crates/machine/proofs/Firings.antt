@@ -8,10 +8,10 @@ use mathlib.Core.List.{List, [], ◌∷◌, ◌++◌}
 use mathlib.Core.Path.{◌≡◌, refl, ap}
 use lib.Dec.{lit<}
 use lib.ListN.{length, replicate}
-use Rattle.base.specs.Tests.{if◌then◌else◌, ◌=?◌}
+use Rattle.base.specs.Tests.{when◌then◌else◌, ◌=?◌}
 use Rattle.machine.specs.Terms.{no_transition}
 use Rattle.machine.specs.Log.{Log, met, logged, bytes_of, slice_with, lines_of}
-use Rattle.machine.specs.Events.{Run, transition, node_changed, node_to, anchor_changed, anchor_to, set_property, choice_made}
+use Rattle.machine.specs.Events.{Run, node_changed, node_to, anchor_changed, anchor_to, set_property, choice_made}
 use Rattle.machine.specs.Tick.{keyed}
 use Rattle.machine.specs.Chain.{firing_logged, limit_met}
 use Rattle.machine.specs.Demand3.{is_fired, fired_lines}
@@ -81,7 +81,7 @@ line_fired limit firings more l g h e b p = record {
 
 module _ (limit : ℕ) where
   plain : (firings : ℕ) (l : Line) (g : Log) → 0 < l.class → is_fired l ≡ false → Fired limit firings g → Fired limit firings (logged l g)
-  unfolding one_if if◌then◌else◌
+  unfolding one_if when◌then◌else◌
   plain firings l g h e p =
       let z : firings + 0 ≡ firings = omega arith in
       rw z at (line_fired limit firings 0 l g h (rw e) (omega (arith, p.below)) p)
@@ -99,7 +99,7 @@ module _ (d : Document) where
   anchor_keeps a new change r p = chosen FiredRun (change =? no_transition) (λ _. p) (λ _. plain _ _ _ r.log (lit< tt) refl p)
 
   pub firings : Primitives d FiredRun
-  unfolding node_to anchor_to set_property choice_made keyed firing_logged limit_met is_fired one_if if◌then◌else◌
+  unfolding node_to anchor_to set_property choice_made keyed firing_logged limit_met is_fired one_if when◌then◌else◌
   firings = record {
     moves = record {
       node = λ aborting n new r _ p. node_keeps n new _ r p;

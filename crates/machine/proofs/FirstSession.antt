@@ -1,5 +1,5 @@
 -- The session of an accepted load is not broken, nothing in it is awake, and nothing is counted: by induction over the records.
-use Prim.Native.Nat.{ℕ, ◌+◌, ◌*◌, ◌≤◌, ◌<◌}
+use Prim.Native.Nat.{ℕ, ◌+◌, ◌*◌, ◌<◌}
 use native.Mathlib.Omega.{arith}
 use mathlib.Core.Bool.{true, false, ◌&&◌}
 use mathlib.Core.List.{List, [], ◌∷◌}
@@ -8,7 +8,7 @@ use lib.Dec.{lit≤}
 use lib.IntN.{ℤ, pos}
 use lib.ListN.{length, get_or, set, replicate, length-replicate}
 use borrow.Author.Tests.{eqb-true, eqb-false, leb-false}
-use Rattle.base.specs.Tests.{if◌then◌else◌, ◌=?◌, ◌<?◌, ◌≤?◌, by_test, both_pass}
+use Rattle.base.specs.Tests.{when◌then◌else◌, ◌=?◌, ◌<?◌, ◌≤?◌, by_test, both_pass}
 use Rattle.base.specs.Loops.{some, some_one}
 use Rattle.base.specs.Marks.{zero_at}
 use Rattle.machine.specs.Terms.{occurring, paused}
@@ -126,7 +126,7 @@ module _ (d : Document) (l : Loading d) (values : List ℤ) (v : Filled (pos 0) 
       (λ e. e)
 
   right : Right d new
-  unfolding new_state anchor_state_in children_state if◌then◌else◌
+  unfolding new_state anchor_state_in children_state when◌then◌else◌
   right = record {
     timed = record {
       nodes = λ n h. record { three = rw (zero_at 64 n) (lit≤ tt); composite = λ _. zero_at 64 n; asleep = λ _. zero_at 64 n; bounded = λ _ a. absurd (a (zero_at 64 n)) };
@@ -144,7 +144,7 @@ module _ (d : Document) (l : Loading d) (values : List ℤ) (v : Filled (pos 0) 
   shaped = search (zeros, no_choice)
 
   new_invariant : Invariant [] (record { document = d; state = new })
-  unfolding new_state number one_if_awake if◌then◌else◌
+  unfolding new_state number one_if_awake when◌then◌else◌
   new_invariant = record {
     unbroken = not_broken _ (record { tables = obeys; document_ends = document_ends d l.columns; state_ends = state_ends d new shaped; states = right_states d new right; choices = choices_right_lem d new shaped });
     shaped = shaped;

@@ -9,7 +9,7 @@ use lib.Dec.{lit<}
 use lib.ListN.{length, get_or, take, length-append}
 use lib.Seq.{take_all, take-suc, take-append-le}
 use borrow.Author.Tests.{eqb-false, ltb-true, ltb-false}
-use Rattle.base.specs.Tests.{if◌then◌else◌, ◌=?◌, ◌<?◌, by_test, both_pass}
+use Rattle.base.specs.Tests.{when◌then◌else◌, ◌=?◌, ◌<?◌, by_test, both_pass}
 use Rattle.machine.specs.Log.{Log, line, met, logged}
 use Rattle.machine.specs.Events.{Run, node_changed, node_to, anchor_changed, anchor_to, set_property, choice_made}
 use Rattle.machine.specs.Tick.{keyed}
@@ -22,7 +22,7 @@ use Rattle.machine.proofs.Keep.{Primitives, steps, actions, line_keeps, chosen}
 
 -- a refusal that is met stops the run
 pub met_stops : (number : ℕ) (g : Log) → 0 < number → (met number g).stop ≡ 0 → ⊥
-unfolding if◌then◌else◌
+unfolding when◌then◌else◌
 met_stops number g h = by_test (g.stop =? 0) (λ e. rw e (λ q. omega arith)) (λ e. rw e (eqb-false g.stop 0 e))
 
 -- one more line, if nothing stops the run, in a state that may have changed, after the lines h of the calls before

@@ -6,7 +6,7 @@ use mathlib.Core.Path.{◌≡◌, refl}
 use lib.IntN.{ℤ}
 use lib.Dec.{lit≤}
 use borrow.Author.Tests.{eqb-true, eqb-false, ltb-true}
-use Rattle.base.specs.Tests.{if◌then◌else◌, ◌=?◌, both_pass}
+use Rattle.base.specs.Tests.{when◌then◌else◌, ◌=?◌, both_pass}
 use Rattle.base.specs.Loops.{ascending, ascending_turns, descending_turns}
 use Rattle.machine.specs.Terms.{paused, to_start, to_stop, to_abort, to_set}
 use Rattle.machine.specs.Tables.{is_media, anchor_at, bind_at}
@@ -24,8 +24,8 @@ use mathlib.Core.List.{List}
 use Rattle.machine.proofs.SoundTables.{bind_own}
 
 -- a choice, with what its test tells
-pub chosen : {A : Type 0} (P : A → Type 0) (b : Bool) {x y : A} → (b ≡ true → P x) → (b ≡ false → P y) → P (if b then x else y)
-unfolding if◌then◌else◌
+pub chosen : {A : Type 0} (P : A → Type 0) (b : Bool) {x y : A} → (b ≡ true → P x) → (b ≡ false → P y) → P (when b then x else y)
+unfolding when◌then◌else◌
 chosen P true p q = p refl
 chosen P false p q = q refl
 

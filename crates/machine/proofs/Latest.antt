@@ -1,5 +1,5 @@
 -- Where the anchors of a media do not overlap, an awake one is the last of them that started: kept by every whole step of a node.
-use Prim.Native.Nat.{ℕ, ◌+◌, ◌≤◌, ◌<◌}
+use Prim.Native.Nat.{ℕ, ◌≤◌, ◌<◌}
 use native.Mathlib.Omega.{arith}
 use mathlib.Core.Bool.{Bool, true, false, ◌&&◌, true≢false, and-false}
 use mathlib.Core.List.{List, ◌++◌}
@@ -7,7 +7,7 @@ use mathlib.Core.Path.{◌≡◌, refl, sym, ◌∙◌}
 use lib.Dec.{lit<}
 use lib.ListN.{length, get_or, set, length-set}
 use borrow.Author.Tests.{eqb-true, eq-eqb, ne_eqb}
-use Rattle.base.specs.Tests.{if◌then◌else◌, ◌=?◌, by_test, not_true, not_false}
+use Rattle.base.specs.Tests.{when◌then◌else◌, ◌=?◌, by_test, not_true, not_false}
 use Rattle.machine.specs.Terms.{sleeping, occurring, to_start, to_stop, of_property, starts, no_id}
 use Rattle.machine.specs.Log.{line, logged}
 use Rattle.machine.specs.Events.{Run, node_clock, anchor_state, awake, with_state, node_changed, node_to, anchor_changed, anchor_to, set_property, choice_made, begins_at, ends_at, is_awake, follows, media_moved}
@@ -36,7 +36,7 @@ module _ (h : List Line) (d : Document) (m : ℕ) where
   module _ (Q : List ℕ → ℕ → Type 0) where
     -- one more line, with states that may have changed
     line_kept : (l : Line) (x y : Run) → y.log ≡ logged l x.log → length y.state.anchors.states ≡ length x.state.anchors.states
-        → ((last : ℕ) → Q x.state.anchors.states last → Q y.state.anchors.states (if is_start_of d m l then l.id else last)) → IfFitted Q x → IfFitted Q y
+        → ((last : ℕ) → Q x.state.anchors.states last → Q y.state.anchors.states (when is_start_of d m l then l.id else last)) → IfFitted Q x → IfFitted Q y
     line_kept l x y e len turn k = record {
       room = rw len k.room;
       holds = rw e
@@ -46,7 +46,7 @@ module _ (h : List Line) (d : Document) (m : ℕ) where
 
     -- one that starts no anchor of m, with the states that there were
     other_kept : (l : Line) (x y : Run) → is_start_of d m l ≡ false → y.log ≡ logged l x.log → y.state.anchors.states ≡ x.state.anchors.states → IfFitted Q x → IfFitted Q y
-    unfolding if◌then◌else◌
+    unfolding when◌then◌else◌
     other_kept l x y n e q = line_kept l x y e (rw q) (λ last k. rw (q, n) k)
 
     node_kept : (aborting : Bool) (n new : ℕ) (r : Run) → IfFitted Q r → IfFitted Q (node_to aborting n new r)
@@ -54,7 +54,7 @@ module _ (h : List Line) (d : Document) (m : ℕ) where
     node_kept aborting n new r k = chosen (IfFitted Q) _ (λ _. k) (λ _. other_kept _ r _ refl refl refl k)
 
     anchor_kept : (aborting : Bool) (a new : ℕ) (r : Run) → let states = r.state.anchors.states in
-        ((last : ℕ) → Q states last → Q (set states a new) (if get_or states a 0 =? sleeping && awake new && is_anchor_of d.anchors m a then a else last))
+        ((last : ℕ) → Q states last → Q (set states a new) (when get_or states a 0 =? sleeping && awake new && is_anchor_of d.anchors m a then a else last))
         → IfFitted Q r → IfFitted Q (anchor_to aborting a new r)
     unfolding anchor_to anchor_changed is_start_of
     anchor_kept aborting a new r turn k =
@@ -68,7 +68,7 @@ module _ (h : List Line) (d : Document) (m : ℕ) where
 
   none_starts : (aborting : Bool) (a new : ℕ) (r : Run) → a < d.anchors.count → (anchor_state r.state a =? sleeping && awake new) ≡ false
       → IfFitted Latest r → IfFitted Latest (anchor_to aborting a new r)
-  unfolding if◌then◌else◌
+  unfolding when◌then◌else◌
   none_starts aborting a new r i no_start k =
       anchor_kept Latest aborting a new r
       (λ last q. rw no_start (λ b v w. q b v (λ z. w (get_d_set r.state.anchors.states a b new 0 (omega (arith, k.room))
@@ -81,10 +81,10 @@ module _ (h : List Line) (d : Document) (m : ℕ) where
   LatestAwake states last = (a : ℕ) → is_anchor_of d.anchors m a ≡ true → Awake (get_or states a 0) → (is_anchor_of d.anchors m last ≡ true) × Awake (get_or states last 0)
 
   none_sleeps : (aborting : Bool) (a new : ℕ) (r : Run) → a < d.anchors.count → Awake new → IfFitted LatestAwake r → IfFitted LatestAwake (anchor_to aborting a new r)
-  unfolding if◌then◌else◌
+  unfolding when◌then◌else◌
   none_sleeps aborting a new r i wakes k =
       let states = r.state.anchors.states in
-      let after : (b : ℕ) → get_or (set states a new) b 0 ≡ (if a =? b then new else get_or states b 0) = λ b. get_d_set states a b new 0 (omega (arith, k.room)) in
+      let after : (b : ℕ) → get_or (set states a new) b 0 ≡ (when a =? b then new else get_or states b 0) = λ b. get_d_set states a b new 0 (omega (arith, k.room)) in
       anchor_kept LatestAwake aborting a new r
       (λ last q. by_test (get_or states a 0 =? sleeping && awake new && is_anchor_of d.anchors m a)
       (λ t. rw t (λ b v w. ((all_pass (get_or states a 0 =? sleeping) (awake new) _ t).2, rw (after a, eq-eqb a a refl) wakes)))
@@ -114,7 +114,7 @@ module _ (h : List Line) (d : Document) (m : ℕ) where
 
   -- an action that is no start
   moved_latest : (action n : ℕ) (r : Run) → action =? to_start ≡ false → IfFitted Latest r → IfFitted Latest (media_moved d.anchors action n r)
-  unfolding follows is_awake if◌then◌else◌
+  unfolding follows is_awake when◌then◌else◌
   moved_latest action n r e =
       media_keeps d (IfFitted Latest) action n r (node_kept Latest _ n _) (λ a x i f. none_starts _ a _ x i (rw (not_true (anchor_state x.state a =? sleeping) (rw e at f))))
 

@@ -3,7 +3,7 @@ use Prim.Native.Nat.{ℕ, zero, suc, ◌+◌, ◌<◌}
 use mathlib.Core.Bool.{true, ◌&&◌}
 use mathlib.Core.Path.{◌≡◌, refl, ap, ◌∙◌}
 use lib.ListN.{length, get_or}
-use Rattle.base.specs.Tests.{if◌then◌else◌, ◌<?◌, by_test}
+use Rattle.base.specs.Tests.{when◌then◌else◌, ◌<?◌, by_test}
 use Rattle.base.specs.Loops.{every_each, ascending_same}
 use Rattle.machine.specs.Tables.{link_at}
 use Rattle.machine.specs.Log.{line}
@@ -26,7 +26,7 @@ module _ (d : Document) (outside : owners_outside d ≡ true) where
   line_same x r = ascending_same _ _ d.links.count r (link_same x)
 
   lines_same : (most k : ℕ) (r : Run) → lines_taken owner_chosen d most k r ≡ lines_taken any_owner d most k r
-  unfolding lines_taken if◌then◌else◌
+  unfolding lines_taken when◌then◌else◌
   lines_same zero k r = refl
   lines_same (suc most) k r =
       by_test (goes_on r && k <? length r.log.lines)

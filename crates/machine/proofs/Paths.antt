@@ -5,14 +5,14 @@ use mathlib.Core.Bool.{Bool, true}
 use mathlib.Core.List.{List}
 use mathlib.Core.Path.{◌≡◌, refl}
 use borrow.Author.Tests.{eqb-false}
-use Rattle.base.specs.Tests.{if◌then◌else◌, ◌=?◌, by_test, both_pass, pass_both}
+use Rattle.base.specs.Tests.{when◌then◌else◌, ◌=?◌, by_test, both_pass, pass_both}
 use Rattle.machine.specs.Tables.{parent_of}
 use Rattle.machine.specs.Owners.{each_up, is_chosen, outside_switches, path_chosen}
 use Rattle.machine.specs.declared.Nodes.{Nodes}
 
 -- what a test passes on the path, one that is weaker on all nodes but 0 does
 pub weaker_up : (nodes : Nodes) (test other : ℕ → Bool) → ((n : ℕ) → 0 < n → test n ≡ true → other n ≡ true) → (steps n : ℕ) → each_up nodes test steps n ≡ true → each_up nodes other steps n ≡ true
-unfolding each_up if◌then◌else◌
+unfolding each_up when◌then◌else◌
 weaker_up nodes test other weaker zero n e = refl
 weaker_up nodes test other weaker (suc steps) n e =
     by_test (n =? 0) (λ z. rw z)

@@ -6,7 +6,7 @@ use mathlib.Core.List.{List}
 use mathlib.Core.Path.{◌≡◌, sym, ap₂, ◌∙◌}
 use lib.ListN.{get_or}
 use borrow.Author.Tests.{eqb-true, eqb-false}
-use Rattle.base.specs.Tests.{if◌then◌else◌, ◌=?◌, by_test}
+use Rattle.base.specs.Tests.{when◌then◌else◌, ◌=?◌, by_test}
 use Rattle.base.specs.Loops.{same_some, descending_turns}
 use Rattle.machine.specs.Terms.{occurring, paused, sleeping}
 use Rattle.machine.specs.Tables.{is_media, parent_of}
@@ -28,7 +28,7 @@ children_same : (nodes : Nodes) (states other : List ℕ) (c : ℕ) → ((k : �
     → children_state nodes states c ≡ children_state nodes other c
 unfolding children_state child_in
 children_same nodes states other c h =
-    ap₂ (λ (a b : Bool). if a then occurring else if b then paused else sleeping) (same_some _ _ _ (same occurring)) (same_some _ _ _ (same paused))
+    ap₂ (λ (a b : Bool). when a then occurring else when b then paused else sleeping) (same_some _ _ _ (same occurring)) (same_some _ _ _ (same paused))
   where
     same : (state k : ℕ) → k < nodes.count → child_in nodes states state c k ≡ child_in nodes other state c k
     same state k l =

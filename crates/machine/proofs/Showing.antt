@@ -7,7 +7,7 @@ use mathlib.Core.Logic.{⊎_elim}
 use mathlib.Core.Path.{◌≡◌, refl, sym, ap, ◌∙◌}
 use lib.IntN.{ℤ, pos, negsuc}
 use borrow.Author.Tests.{eqb-true, eq-eqb, lt-ltb, ltb-true, ltb-false, leb-true}
-use Rattle.base.specs.Tests.{if◌then◌else◌, ◌<?◌, ◌≤?◌, by_test, both_pass, pass_both, one_passes}
+use Rattle.base.specs.Tests.{when◌then◌else◌, ◌<?◌, ◌≤?◌, by_test, both_pass, pass_both, one_passes}
 use Rattle.base.specs.Loops.{every_each, none_passing, One, one_passing}
 use Rattle.machine.specs.Terms.{no_id}
 use Rattle.machine.specs.Tables.{anchor_at, link_at, action_count}
@@ -44,7 +44,7 @@ pub record Shows (d : Document) (m p : ℕ) : Type 0 where
   pub other : (l : ℕ) → l < d.links.count → is_count_link_in d m p l ≡ false → (j : ℕ) → j < action_count d.links l → sets_in d p l j ≡ false
 
 first_holds : (n : ℕ) (holds : Bool) (others : List Bool) → 0 < n → first_failing n (holds ∷ others) ≡ 0 → (holds ≡ true) × (first_failing (n + 1) others ≡ 0)
-unfolding first_failing if◌then◌else◌
+unfolding first_failing when◌then◌else◌
 first_holds n true others l e = (refl, e)
 first_holds n false others l e = absurd (omega arith)
 
@@ -81,10 +81,10 @@ module _ (d : Document) (m : ℕ) where
       }
 
   -- the last that started, of one line more
-  pub last_more : (last : ℕ) (xs : List Line) (x : Line) → last_started d m last (xs ++ (x ∷ [])) ≡ (if is_start_of d m x then x.id else last_started d m last xs)
+  pub last_more : (last : ℕ) (xs : List Line) (x : Line) → last_started d m last (xs ++ (x ∷ [])) ≡ (when is_start_of d m x then x.id else last_started d m last xs)
   unfolding last_started
   last_more last [] x = refl
-  last_more last (y ∷ xs) x = last_more _ xs x
+  last_more last (y ∷ xs) x = last_more (when is_start_of d m y then y.id else last) xs x
 
 -- ---- what the check answers: 0 where the document shows the counts
 

@@ -8,7 +8,7 @@ use mathlib.Core.Path.{◌≡◌, refl, sym, ◌∙◌}
 use lib.Dec.{lit<}
 use lib.IntN.{ℤ}
 use borrow.Author.Tests.{eqb-true, eqb-false, eq-eqb, ne_eqb, ltb-true, leb-true, leb-false, not-true, not-false}
-use Rattle.base.specs.Tests.{if◌then◌else◌, ◌=?◌, ◌<?◌, ◌≤?◌, by_test, both_pass, one_passes, no_fault}
+use Rattle.base.specs.Tests.{when◌then◌else◌, ◌=?◌, ◌<?◌, ◌≤?◌, by_test, both_pass, one_passes, no_fault}
 use Rattle.base.specs.Loops.{every, every_each, first, first_found}
 use Rattle.machine.specs.Terms.{context, media, switch, to_set, simple_rule, composite_rule, no_id}
 use Rattle.machine.specs.Tables.{type_of, parent_of, duration_of, is_media, given, node_at, anchor_at, rule_at, bind_at, port_at, link_at, action_count, action_at}
@@ -65,7 +65,7 @@ pub record RulePasses (properties id : ℕ) (r : RuleRecord) : Type 0 where
   pub composite : r.kind =? simple_rule ≡ false → (1 <? r.operator ≡ false) × (r.left <? id && r.right <? id ≡ true)
 
 pub rule_passes : (properties id : ℕ) (r : RuleRecord) → rule_fault properties id r ≡ 0 → RulePasses properties id r
-unfolding rule_fault simple_rule_fault composite_rule_fault if◌then◌else◌
+unfolding rule_fault simple_rule_fault composite_rule_fault when◌then◌else◌
 rule_passes properties id r e =
     let a = no_fault _ 4 _ (lit< tt) e in
     record {
@@ -215,7 +215,7 @@ module _ (d : Document) (o : Obeyed d) where
   t = o.entries
 
   parent_of_lem : (n : ℕ) → 0 < n → n < d.nodes.count → (parent_of d.nodes n < n) × (is_media d.nodes (parent_of d.nodes n) ≡ false)
-  unfolding parent_right if◌then◌else◌
+  unfolding parent_right when◌then◌else◌
   parent_of_lem n z h =
       let p = both_pass _ _ (rw (ne_eqb n 0 (λ e. omega arith)) at (t.nodes n h).parent) in
       (ltb-true _ _ p.0, not-true _ p.1)
@@ -226,7 +226,7 @@ module _ (d : Document) (o : Obeyed d) where
     root : n ≡ 0 → parent_of d.nodes n ≡ no_id
 
   fields_of : (n : ℕ) → n < d.nodes.count → Fields n
-  unfolding node_fields_right if◌then◌else◌
+  unfolding node_fields_right when◌then◌else◌
   fields_of n h =
       let p = both_pass _ _ (t.nodes n h).fields in
       let q = both_pass _ _ p.0 in
@@ -299,7 +299,7 @@ module _ (d : Document) (o : Obeyed d) where
 
 -- the bind that a switch finds is one of its own
 pub bind_own : (d : Document) (values : List ℤ) (n b : ℕ) → b ≡ found_bind d.binds d.rules values n → b < d.binds.count → (bind_at d.binds b).switch ≡ n
-unfolding found_bind if◌then◌else◌ bind_holds
+unfolding found_bind when◌then◌else◌ bind_holds
 bind_own d values n b e h =
     let count = d.binds.count in
     let i = first (bind_holds d.binds d.rules values n) count 0 in
@@ -314,7 +314,7 @@ bind_own d values n b e h =
 
 -- an action of a link, or of a command, that passes its two tests
 pub applicable : (d : Document) (a : ActionRecord) → action_right a.action a.value ≡ true → target_given d a.action a.target ≡ true → Applicable d a
-unfolding action_right target_given if◌then◌else◌
+unfolding action_right target_given when◌then◌else◌
 applicable d a right given =
     let range = both_pass _ _ (both_pass _ _ right).0 in
     record {

@@ -9,7 +9,7 @@ use lib.IntN.{ℤ}
 use lib.Dec.{lit<}
 use lib.Seq.{get_or-set_same, get_or-set_other}
 use borrow.Author.Tests.{eqb-true, eqb-false, eq-eqb, ne_eqb}
-use Rattle.base.specs.Tests.{if◌then◌else◌, ◌=?◌, by_test}
+use Rattle.base.specs.Tests.{when◌then◌else◌, ◌=?◌, by_test}
 use Rattle.machine.specs.Terms.{sleeping, occurring, starts, stops, aborts, of_node, of_anchor, of_property, no_transition}
 use Rattle.machine.specs.Log.{line}
 use Rattle.machine.specs.Events.{Run, node_state, node_count, anchor_state, anchor_count, property_count, transition, counted, with_node, with_anchor, with_value, node_changed, node_to, anchor_changed, anchor_to, set_property, choice_made}
@@ -25,7 +25,7 @@ use Rattle.machine.proofs.Shape.{Shaped, shapes}
 use Rattle.machine.proofs.Growing.{met_stops, one_more}
 
 unfoldable pub one_if : Bool → ℕ
-one_if b = if b then 1 else 0
+one_if b = when b then 1 else 0
 
 pub number_more : (test : Line → Bool) (ls : List Line) (l : Line) → number test (ls ++ (l ∷ [])) ≡ number test ls + one_if (test l)
 unfolding number one_if
@@ -34,7 +34,7 @@ number_more test (x ∷ ls) l = omega (arith, number_more test ls l)
 
 -- a line that is none of these counts nothing
 number_same : (test : Line → Bool) (ls : List Line) (l : Line) → test l ≡ false → number test (ls ++ (l ∷ [])) ≡ number test ls
-unfolding one_if if◌then◌else◌
+unfolding one_if when◌then◌else◌
 number_same test ls l e = number_more test ls l ∙ rw e (omega arith)
 
 is_line_own : (class id t u : ℕ) → is_line class id t (line class id u) ≡ u =? t
@@ -48,11 +48,11 @@ is_line_other class id t j u d = rw (ne_eqb id j (λ e. d (sym e)), and-false)
 -- ---- each transition keeps the balance
 
 unfoldable pub one_if_awake : ℕ → ℕ
-one_if_awake state = if state =? sleeping then 0 else 1
+one_if_awake state = when state =? sleeping then 0 else 1
 
 balance : (aborting : Bool) (old new : ℕ) → let u = transition aborting old new in
     one_if (u =? starts) + one_if_awake old ≡ one_if (u =? stops) + one_if (u =? aborts) + one_if_awake new
-unfolding transition one_if one_if_awake if◌then◌else◌
+unfolding transition one_if one_if_awake when◌then◌else◌
 balance aborting old new =
     by_test (old =? new)
     (λ e. rw (e, eqb-true old new e))
@@ -71,7 +71,7 @@ pub record EventTallied (class id state count : ℕ) (ls : List Line) : Type 0 w
   pub counts : CountsStops class id count ls
 
 count_more : (u count x : ℕ) → count ≡ x % 4_294_967_296 → counted u count ≡ (x + one_if (u =? stops)) % 4_294_967_296
-unfolding counted one_if if◌then◌else◌
+unfolding counted one_if when◌then◌else◌
 count_more u count x e = by_test (u =? stops) (λ q. rw q (omega arith)) (λ q. rw q (omega arith))
 
 module _ {class id state count : ℕ} {ls : List Line} (e : EventTallied class id state count ls) where
@@ -145,7 +145,7 @@ module _ (h : List Line) (d : Document) (sound : Sound d) where
   -- a set starts a property and stops it
   property_set : (p : ℕ) (value : ℤ) (s : State) → p < d.properties → Shaped d s
       → (ls : List Line) → Tallied d s ls → Tallied d (with_value p value (counted stops (property_count s p)) s) ((ls ++ (line of_property p starts ∷ [])) ++ (line of_property p stops ∷ []))
-  unfolding is_line transition counted if◌then◌else◌
+  unfolding is_line transition counted when◌then◌else◌
   property_set p value s k w ls t = record {
     nodes = λ i l. tallied_same (tallied_same (t.nodes i l) _ (λ _. refl)) _ (λ _. refl);
     anchors = λ i l. tallied_same (tallied_same (t.anchors i l) _ (λ _. refl)) _ (λ _. refl);
@@ -159,7 +159,7 @@ module _ (h : List Line) (d : Document) (sound : Sound d) where
   }
 
   pub tallies : Primitives d TalliedRun
-  unfolding node_to node_changed anchor_to anchor_changed set_property choice_made keyed firing_logged limit_met is_line if◌then◌else◌
+  unfolding node_to node_changed anchor_to anchor_changed set_property choice_made keyed firing_logged limit_met is_line when◌then◌else◌
   tallies = record {
     moves = record {
       node = λ aborting n new r k p. (

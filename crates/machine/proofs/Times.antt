@@ -9,7 +9,7 @@ use lib.Dec.{lit≤, eqb-suc-zero, leb-suc-zero}
 use lib.ListN.{length, get_or, set}
 use lib.Seq.{get_or-set_same, get_or-set_other}
 use borrow.Author.Tests.{eqb-true, eqb-false, eq-eqb, ne_eqb, lt-ltb, le-ltb, le-leb, lt-leb, ltb-true, ltb-false, leb-true, leb-false}
-use Rattle.base.specs.Tests.{if◌then◌else◌, ◌=?◌, ◌<?◌, ◌≤?◌, by_test}
+use Rattle.base.specs.Tests.{when◌then◌else◌, ◌=?◌, ◌<?◌, ◌≤?◌, by_test}
 use Rattle.machine.specs.Terms.{sleeping, occurring, paused, to_start, to_stop, to_abort}
 use Rattle.machine.specs.Tables.{is_media, duration_of, anchor_at}
 use Rattle.machine.specs.Events.{Run, node_state, node_clock, anchor_state, next_states, next_state, with_state, begins_at, ends_at, is_awake, follows, node_to, set_property, choice_made, anchors_moved, media_to, media_moved}
@@ -26,8 +26,8 @@ use Rattle.machine.proofs.Effects.{moved_from, RunOnly, RunMoved, node_moves, no
 
 -- ---- the rule's arithmetic: starting, moving, one tick
 
-pub choice_same : (w : Bool) (x : ℕ) → (if w then x else x) ≡ x
-unfolding if◌then◌else◌
+pub choice_same : (w : Bool) (x : ℕ) → (when w then x else x) ≡ x
+unfolding when◌then◌else◌
 choice_same true x = refl
 choice_same false x = refl
 
@@ -35,20 +35,20 @@ begins_zero : (b e : ℕ) → b < e → b =? 0 ≡ (b ≤? 0 && 0 <? e)
 begins_zero zero e h = sym (lt-ltb 0 e h)
 begins_zero (suc b) e h = rw (eqb-suc-zero b, leb-suc-zero b)
 
-moves_rule : (w : Bool) (s n z : ℕ) → Awake s → z ≡ (if w then s else 0) → (if not (z =? 0) then n else z) ≡ (if w then n else 0)
-unfolding if◌then◌else◌
+moves_rule : (w : Bool) (s n z : ℕ) → Awake s → z ≡ (when w then s else 0) → (when not (z =? 0) then n else z) ≡ (when w then n else 0)
+unfolding when◌then◌else◌
 moves_rule true s n z d e = rw (e, ne_eqb s 0 d)
 moves_rule false s n z d e = rw e
 
-sleeps_rule : (z : ℕ) → (if not (z =? 0) then 0 else z) ≡ 0
-unfolding if◌then◌else◌
+sleeps_rule : (z : ℕ) → (when not (z =? 0) then 0 else z) ≡ 0
+unfolding when◌then◌else◌
 sleeps_rule zero = refl
 sleeps_rule (suc z) = rw (eqb-suc-zero z)
 
 -- at clock c + 1: end = c + 1 ends it, begin = c + 1 begins it
-tick_rule : (c b e z : ℕ) → b < e → z ≡ (if b ≤? c && c <? e then 1 else 0)
-    → (if b =? (c + 1) then 1 else if not (z =? 0) && e =? (c + 1) then 0 else z) ≡ (if b ≤? (c + 1) && (c + 1) <? e then 1 else 0)
-unfolding if◌then◌else◌
+tick_rule : (c b e z : ℕ) → b < e → z ≡ (when b ≤? c && c <? e then 1 else 0)
+    → (when b =? (c + 1) then 1 else when not (z =? 0) && e =? (c + 1) then 0 else z) ≡ (when b ≤? (c + 1) && (c + 1) <? e then 1 else 0)
+unfolding when◌then◌else◌
 tick_rule c b e z h q =
     by_test (b =? (c + 1))
     (λ p. rw (p, le-leb b (c + 1) (omega (arith, eqb-true b (c + 1) p)), lt-ltb (c + 1) e (omega (arith, eqb-true b (c + 1) p))))
@@ -166,7 +166,7 @@ module _ (d : Document) (sound : Sound d) where
 
   record Moved (action n new : ℕ) (x y : Run) : Type 0 where
     node : RunMoved n new x y
-    anchors : (a : ℕ) → a < d.anchors.count → anchor_state y.state a ≡ (if moving d (follows action) n x a then new else anchor_state x.state a)
+    anchors : (a : ℕ) → a < d.anchors.count → anchor_state y.state a ≡ (when moving d (follows action) n x a then new else anchor_state x.state a)
 
   module _ (action n new : ℕ) (x : Run) (h : n < d.nodes.count) (p : Shaped d x.state) where
     room : d.anchors.count ≤ length x.state.anchors.states
@@ -209,7 +209,7 @@ module _ (d : Document) (sound : Sound d) where
 
     -- an anchor of media n: started, put to sleep, or moved
     own : (a : ℕ) → a < d.anchors.count → owner a ≡ n → Follows d y.state a
-    unfolding moving follows begins_at is_awake anchor_state_in if◌then◌else◌
+    unfolding moving follows begins_at is_awake anchor_state_in when◌then◌else◌
     own a l e =
         let z = anchor_state x.state a in
         let q : z ≡ _ = rw e at (anchors a l) in
@@ -229,7 +229,7 @@ module _ (d : Document) (sound : Sound d) where
     -- its clock, if it stays awake, was below the duration
     moved_timed : ((j : ℕ) → j < d.nodes.count → (j ≡ n → ⊥) → TimedAt d x.state j) → old ≤ paused
         → (Awake new → TimedAt d x.state n) → Timed d y.state
-    unfolding moving if◌then◌else◌
+    unfolding moving when◌then◌else◌
     moved_timed others three this = record {
       nodes = nodes_again n x y m.node.only others (rw m.node.here (record {
         three = next_three old action three;
@@ -293,13 +293,13 @@ module _ (d : Document) (sound : Sound d) where
     clock_here = rw clocks_next (get_or-set_same r.state.nodes.clocks n next 0 (clocks_room 0 n 0 r h s))
 
     own_anchor : (a : ℕ) → a < d.anchors.count → owner a ≡ n → Follows d z.state a
-    unfolding anchor_state_in moving begins_at ends_at if◌then◌else◌
+    unfolding anchor_state_in moving begins_at ends_at when◌then◌else◌
     own_anchor a l e =
         rw (begun.done a l, ended.done a l, e, eq-eqb n n refl, clock_here, states_same, occurs)
         (tick_rule (node_clock r.state n) (anchor_at d.anchors a).begin (anchor_at d.anchors a).end (anchor_state r.state a) (sound.anchor_span a l) (rw (e, occurs) at (p.anchors a l)))
 
     pub anchors : (a : ℕ) → a < d.anchors.count → Follows d z.state a
-    unfolding moving if◌then◌else◌
+    unfolding moving when◌then◌else◌
     anchors = anchors_again n r z only p.anchors own_anchor (λ a l u. rw (begun.done a l, ended.done a l, ne_eqb (owner a) n u))
 
     others : (j : ℕ) → j < d.nodes.count → (j ≡ n → ⊥) → TimedAt d z.state j

@@ -1,5 +1,5 @@
 -- The values of the properties: what actions do to them; and in the chain, after lines were taken, p has the count of the last start among them.
-use Prim.Native.Nat.{ℕ, suc, ◌+◌, ◌<◌, ◌≤◌}
+use Prim.Native.Nat.{ℕ, suc, ◌<◌, ◌≤◌}
 use native.Mathlib.Omega.{arith}
 use mathlib.Core.Bool.{Bool, true, false, ◌&&◌, true≢false}
 use mathlib.Core.List.{List, [], ◌∷◌, ◌++◌}
@@ -8,7 +8,7 @@ use lib.IntN.{ℤ}
 use lib.Dec.{lit<}
 use lib.ListN.{length}
 use borrow.Author.Tests.{eqb-true, eqb-false, eq-eqb, ne_eqb}
-use Rattle.base.specs.Tests.{if◌then◌else◌, ◌=?◌, by_test, both_pass, pass_both}
+use Rattle.base.specs.Tests.{when◌then◌else◌, ◌=?◌, by_test, both_pass, pass_both}
 use Rattle.base.specs.Loops.{ascending, ascending_idle, ascending_turns}
 use Rattle.machine.specs.Terms.{to_set, starts, of_anchor, no_id}
 use Rattle.machine.specs.Tables.{link_at, action_at, action_count}
@@ -32,14 +32,14 @@ use Rattle.machine.proofs.Showing.{Shows, anchor_given, last_more}
 
 module _ (test : ℕ → Bool) (value : ℕ → ℤ) (n : ℕ) (v : ℤ) where
   abbrev loop_value : ℤ
-  loop_value = ascending (λ k v. if test k then value k else v) n v
+  loop_value = ascending (λ k v. when test k then value k else v) n v
 
   none_sets : ((k : ℕ) → k < n → test k ≡ false) → loop_value ≡ v
-  unfolding if◌then◌else◌
+  unfolding when◌then◌else◌
   none_sets none = ascending_idle _ n v (λ k h. rw (none k h))
 
   one_sets : (j : ℕ) → j < n → test j ≡ true → ((k : ℕ) → k < n → test k ≡ true → k ≡ j) → loop_value ≡ value j
-  unfolding if◌then◌else◌
+  unfolding when◌then◌else◌
   one_sets j h passes only =
       ascending_turns (λ k (w : ℤ). j < k → w ≡ value j) n v (λ l. absurd (omega arith))
       (λ k w i q l. by_test (test k)
@@ -65,14 +65,14 @@ module _ (d : Document) (sound : Sound d) (p : ℕ) where
   })
 
   module _ (a : ActionRecord) (r : Run) (t : Applicable d a) (s : ShapedRun d r) where
-    performed_value : value_of (performed d a r).state p ≡ (if a.action =? to_set && a.target =? p then a.value else value_of r.state p)
-    unfolding performed set_property if◌then◌else◌
+    performed_value : value_of (performed d a r).state p ≡ (when a.action =? to_set && a.target =? p then a.value else value_of r.state p)
+    unfolding performed set_property when◌then◌else◌
     performed_value =
         by_test (a.action =? to_set)
         (λ e. rw e (get_d_set r.state.properties.values a.target p a.value _ (omega (arith, sound.properties, s.properties.0.len, t.property (eqb-true a.action to_set e)))))
         (λ e. moves_keep d (ValueIs (value_of r.state p)) sound (values_kept _) a r t (λ q. absurd (eqb-false _ _ e q)) refl ∙ rw e)
 
-    pub acted_value : value_of (acted d a r).state p ≡ (if a.action =? to_set && a.target =? p then a.value else value_of r.state p)
+    pub acted_value : value_of (acted d a r).state p ≡ (when a.action =? to_set && a.target =? p then a.value else value_of r.state p)
     unfolding acted
     acted_value = settled_keeps d (ValueIs _) sound (values_kept _) _ _ _ performed_value
 
@@ -136,13 +136,13 @@ module _ (d : Document) (sound : Sound d) (p : ℕ) where
     module _ (x : Line) (v : ℤ) (l : ℕ) (y : Run) (h : l < d.links.count) (k : ShapedRun d y) (q : y.log.stop ≡ 0 → value_of y.state p ≡ v) where
       -- what p has after link l was tried on line x
       abbrev tried : ℤ
-      tried = if sets_count x l then count_of_link l else v
+      tried = when sets_count x l then count_of_link l else v
 
       abbrev Tried : Run → Type 0
       Tried z = z.log.stop ≡ 0 → value_of z.state p ≡ tried
 
       fired_value : matches x l ≡ true → y.log.stop ≡ 0 → Tried (actions_run d l (firing_logged l y))
-      unfolding firing_logged count_action if◌then◌else◌
+      unfolding firing_logged count_action when◌then◌else◌
       fired_value on f done =
           actions_value_lem l (firing_logged l y) h k done
           ∙ by_test (is_count_link_in d m p l)
@@ -150,7 +150,7 @@ module _ (d : Document) (sound : Sound d) (p : ℕ) where
           (λ c. rw (on, c) (none_sets (sets_in d p l) _ _ _ (showing.other l h c) ∙ q f))
 
       idle_value : fires owner_chosen d y.state x l ≡ false → Tried y
-      unfolding fires owner_chosen guard_holds if◌then◌else◌
+      unfolding fires owner_chosen guard_holds when◌then◌else◌
       idle_value e f =
           by_test (sets_count x l)
           (λ c. let b = both_pass (matches x l) _ c in absurd (true≢false (sym (pass_both _ _ (pass_both _ _ b.0 (showing.chosen l h b.1 y.state.choices)) (rw (showing.unguarded l h b.1))) ∙ e)))
@@ -171,10 +171,10 @@ module _ (d : Document) (sound : Sound d) (p : ℕ) where
     HasLastCount before ls r = r.log.stop ≡ 0 → value_of r.state p ≡ last_count d m p before ls
 
     line_value : (before : ℤ) (ls : List Line) (x : Line) (r : Run) → ShapedRun d r → HasLastCount before ls r → HasLastCount before (ls ++ (x ∷ [])) (line_taken owner_chosen d x r)
-    unfolding line_taken last_count count_of count_link is_start_of ascending if◌then◌else◌
+    unfolding line_taken last_count count_of count_link is_start_of ascending when◌then◌else◌
     line_value before ls x r k q f =
         let v = last_count d m p before ls in
-        (ascending_turns (λ l (y : Run). ShapedRun d y × (y.log.stop ≡ 0 → value_of y.state p ≡ loop_value (sets_count x) count_of_link l v)) d.links.count r
+        (ascending_turns (λ l (y : Run). ShapedRun d y × (y.log.stop ≡ 0 → value_of y.state p ≡ loop_value (sets_count x) count_of_link l v)) {step = link_tried owner_chosen d x} d.links.count r
         (k, q)
         (λ l y h w. (link_keeps d _ sound shape_kept owner_chosen x l y h w.0, link_value x _ l y h w.0 w.1))
         ).1 f

@@ -5,7 +5,7 @@ use mathlib.Core.Bool.{true, false, ◌&&◌, ◌||◌, true≢false, and-false}
 use mathlib.Core.Logic.{⊎_elim}
 use mathlib.Core.Path.{◌≡◌, sym, ◌∙◌}
 use borrow.Author.Tests.{eqb-true, eqb-false, eq-eqb, ne_eqb, lt-ltb, le-leb, ltb-true, leb-true, not-false}
-use Rattle.base.specs.Tests.{if◌then◌else◌, ◌=?◌, ◌<?◌, by_test, both_pass, pass_both, one_passes}
+use Rattle.base.specs.Tests.{when◌then◌else◌, ◌=?◌, ◌<?◌, by_test, both_pass, pass_both, one_passes}
 use Rattle.base.specs.Loops.{every, every_each, each_every}
 use Rattle.machine.specs.Tables.{is_media, duration_of}
 use Rattle.machine.specs.Events.{node_state, node_clock, awake, children_state}
@@ -23,17 +23,17 @@ module _ (d : Document) (s : State) where
   -- ---- of one node: its clock and its state
 
   clock_still : (n : ℕ) → is_media d.nodes n && awake (node_state s n) ≡ false → clock_right d s n ≡ true → node_clock s n ≡ 0
-  unfolding clock_right if◌then◌else◌
+  unfolding clock_right when◌then◌else◌
   clock_still n u e = eqb-true _ _ (rw u at e)
 
   clock_bounded : (n : ℕ) → clock_right d s n ≡ true → is_media d.nodes n ≡ true → Awake (node_state s n) → 0 < duration_of d.nodes n → node_clock s n < duration_of d.nodes n
-  unfolding clock_right if◌then◌else◌
+  unfolding clock_right when◌then◌else◌
   clock_bounded n e type a z =
       let q : (duration_of d.nodes n =? 0 || node_clock s n <? duration_of d.nodes n) ≡ true = rw (type, ne_eqb (node_state s n) 0 a) at e in
       ⊎_elim (λ (w : duration_of d.nodes n =? 0 ≡ true). absurd (omega (arith, eqb-true (duration_of d.nodes n) 0 w))) (λ w. ltb-true _ _ w) (one_passes _ _ q)
 
   clock_right_lem : (n : ℕ) → NodeTimed d n (node_state s n) (node_clock s n) → clock_right d s n ≡ true
-  unfolding clock_right if◌then◌else◌
+  unfolding clock_right when◌then◌else◌
   clock_right_lem n f =
       by_test (is_media d.nodes n)
       (λ m. by_test (node_state s n =? 0)

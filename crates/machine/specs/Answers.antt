@@ -4,19 +4,13 @@ use Rattle.std.specs.Prelude.{ℕ, ◌≡◌, refl, false, List, [], ◌∷◌, 
 use Rattle.base.specs.Tests.{◌=?◌}
 use Rattle.machine.specs.declared.Refusal.{Refusal}
 use Rattle.machine.specs.declared.Refusal.TheVariants.{CutRecord, UnknownKind, MisplacedHead, TableFull, FieldOutOfRange, UnknownId, Conflict, NoNode, BadArgument, NoSuchId, LimitReached, LogFull, BrokenSession}
-use Rattle.machine.specs.declared.Check
 use Rattle.machine.specs.declared.Check.{Check}
-use Rattle.machine.specs.declared.LoadAnswer
 use Rattle.machine.specs.declared.LoadAnswer.{LoadAnswer}
-use Rattle.machine.specs.declared.CallAnswer
 use Rattle.machine.specs.declared.CallAnswer.{CallAnswer}
-use Rattle.machine.specs.declared.ReadAnswer
 use Rattle.machine.specs.declared.ReadAnswer.{ReadAnswer}
 use Rattle.machine.specs.declared.Condition.{Condition}
 use Rattle.machine.specs.declared.Condition.TheVariants.{HasAnchor, AnchorsDisjoint, EachHasOneLink, EachSetsOnce, EachUnguarded, NoOtherAction, EachOutsideSwitches}
-use Rattle.machine.specs.declared.CountsAnswer
 use Rattle.machine.specs.declared.CountsAnswer.{CountsAnswer}
-use Rattle.machine.specs.declared.CountAnswer
 use Rattle.machine.specs.declared.CountAnswer.{CountAnswer}
 
 -- an answer as 01 gives it: the number of its refusal, 0 if it is accepted, and the values of an accepted one

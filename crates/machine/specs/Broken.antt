@@ -1,6 +1,6 @@
 -- "Broken session" (01's term), clause by clause.
 use Rattle.std.specs.Prelude.{ℕ, Bool, true, not, ◌&&◌, ◌||◌, List, [], ◌∷◌, pos, get_or, drop}
-use Rattle.base.specs.Tests.{if◌then◌else◌, ◌=?◌, ◌<?◌, ◌≤?◌, equal_ints}
+use Rattle.base.specs.Tests.{when◌then◌else◌, ◌=?◌, ◌<?◌, ◌≤?◌, equal_ints}
 use Rattle.base.specs.Loops.{every}
 use Rattle.machine.specs.Terms.{switch, sleeping, paused, simple_rule, composite_rule}
 use Rattle.machine.specs.Tables.{parent_of, is_media, given, duration_of, node_at, anchor_at, rule_at, bind_at, port_at, link_at, action_at, action_count, Column, numbers, integers, Table, node_table, anchor_table, rule_table, bind_table, port_table, link_table, action_tables, node_event_table, anchor_event_table, property_event_table}
@@ -27,7 +27,7 @@ property_obeys d i = property_fault i =? 0
 -- of a rule's fields, those that its kind does not use are entries past a table's end, too
 unfoldable pub rule_unused_zero : RuleRecord → Bool
 rule_unused_zero r =
-    if r.kind =? simple_rule then r.operator =? 0 && r.left =? 0 && r.right =? 0
+    when r.kind =? simple_rule then r.operator =? 0 && r.left =? 0 && r.right =? 0
     else r.property =? 0 && r.comparator =? 0 && equal_ints r.value (pos 0)
 
 unfoldable pub rule_obeys : Document → ℕ → Bool
@@ -97,7 +97,7 @@ composite_right d s n = is_media d.nodes n || node_state s n =? children_state d
 
 unfoldable pub clock_right : Document → State → ℕ → Bool
 clock_right d s n =
-    if is_media d.nodes n && awake (node_state s n)
+    when is_media d.nodes n && awake (node_state s n)
     then duration_of d.nodes n =? 0 || node_clock s n <? duration_of d.nodes n
     else node_clock s n =? 0
 
@@ -109,7 +109,7 @@ unfoldable pub anchor_state_in : Document → State → ℕ → ℕ
 anchor_state_in d s a =
     let anchor = anchor_at d.anchors a in
     let clock = node_clock s anchor.media in
-    if anchor.begin ≤? clock && clock <? anchor.end then node_state s anchor.media else sleeping
+    when anchor.begin ≤? clock && clock <? anchor.end then node_state s anchor.media else sleeping
 
 unfoldable pub anchor_right : Document → State → ℕ → Bool
 anchor_right d s a = anchor_state s a =? anchor_state_in d s a

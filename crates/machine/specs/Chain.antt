@@ -1,6 +1,6 @@
 -- "The chain of links": "The log is also the queue."
 use Rattle.std.specs.Prelude.{ℕ, zero, suc, ◌+◌, Bool, ◌&&◌, length, get_or}
-use Rattle.base.specs.Tests.{if◌then◌else◌, ◌=?◌, ◌<?◌}
+use Rattle.base.specs.Tests.{when◌then◌else◌, ◌=?◌, ◌<?◌}
 use Rattle.base.specs.Loops.{ascending}
 use Rattle.machine.specs.Terms.{no_transition, of_fired}
 use Rattle.machine.specs.Tables.{link_at, action_at, action_count}
@@ -30,7 +30,7 @@ goes_on r = r.log.stop =? 0
 
 -- "and its actions run in order, each settled"
 unfoldable pub action_run : Document → ℕ → ℕ → Run → Run
-action_run d l j r = if goes_on r then acted d (action_at d.actions l j) r else r
+action_run d l j r = when goes_on r then acted d (action_at d.actions l j) r else r
 
 unfoldable pub actions_run : Document → ℕ → Run → Run
 actions_run d l r = ascending (action_run d l) (action_count d.links l) r
@@ -41,10 +41,10 @@ limit_met r = with_state r.state (met 11 r.log) r
 -- "11 when a link would fire and the count already equals the limit": the count begins at 0 and is never above the limit,
 -- so that it equals the limit where it is not below it; "a firing tests 11 before its line tests 12"
 unfoldable pub fired : Document → ℕ → Run → Run
-fired d l r = if r.firings <? d.limit then actions_run d l (firing_logged l r) else limit_met r
+fired d l r = when r.firings <? d.limit then actions_run d l (firing_logged l r) else limit_met r
 
 unfoldable pub link_tried : OwnerTest → Document → Line → ℕ → Run → Run
-link_tried admits d x l r = if goes_on r && fires admits d r.state x l then fired d l r else r
+link_tried admits d x l r = when goes_on r && fires admits d r.state x l then fired d l r else r
 
 -- "for each, links by id"
 unfoldable pub line_taken : OwnerTest → Document → Line → Run → Run
@@ -54,7 +54,7 @@ line_taken admits d x r = ascending (link_tried admits d x) d.links.count r
 unfoldable pub lines_taken : OwnerTest → Document → ℕ → ℕ → Run → Run
 lines_taken admits d zero k r = r
 lines_taken admits d (suc most) k r =
-    if goes_on r && k <? length r.log.lines
+    when goes_on r && k <? length r.log.lines
     then lines_taken admits d most (k + 1) (line_taken admits d (get_or r.log.lines k (line 0 0 0)) r)
     else r
 

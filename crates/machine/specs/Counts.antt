@@ -1,7 +1,7 @@
 -- Which count stands under which frame: documents that show the counts of a media in a property, the check for their authors,
 -- and what holds for such documents after every list of commands, keys and ticks.
 use Rattle.std.specs.Prelude.{ℕ, ◌+◌, ◌<◌, Bool, true, false, not, ◌&&◌, ◌||◌, List, [], ◌∷◌, ◌≡◌, ℤ, pos, get_or}
-use Rattle.base.specs.Tests.{if◌then◌else◌, ◌=?◌, ◌<?◌, ◌≤?◌}
+use Rattle.base.specs.Tests.{when◌then◌else◌, ◌=?◌, ◌<?◌, ◌≤?◌}
 use Rattle.base.specs.Loops.{first, some, every, passing}
 use Rattle.machine.specs.Terms.{to_set, starts, of_anchor, no_id}
 use Rattle.machine.specs.Tables.{is_media, anchor_at, link_at, action_at, action_count}
@@ -102,7 +102,7 @@ each_outside_switches d m p = every (owner_outside_switches d m p) d.links.count
 -- "the first condition that fails" of those from number n on, 0 if none does
 unfoldable pub first_failing : ℕ → List Bool → ℕ
 first_failing n [] = 0
-first_failing n (holds ∷ others) = if not holds then n else first_failing (n + 1) others
+first_failing n (holds ∷ others) = when not holds then n else first_failing (n + 1) others
 
 unfoldable pub conditions : Document → ℕ → ℕ → List Bool
 conditions d m p =
@@ -138,20 +138,20 @@ count_of d p a = (action_at d.actions (count_link d p a) (count_action d p (coun
 -- "13 broken; 10 no such id, or no media; else the first condition that fails, or that the document shows the counts"
 unfoldable pub check_counts : Session → ℕ → ℕ → Answer
 check_counts s m p =
-    if broken s then refused 13
-    else if not (m <? s.document.nodes.count && p <? s.document.properties && is_media s.document.nodes m) then refused 10
+    when broken s then refused 13
+    else when not (m <? s.document.nodes.count && p <? s.document.properties && is_media s.document.nodes m) then refused 10
     else accepted (pos (failing s.document m p) ∷ [])
 
 -- the first condition that fails, and where none does the count
 unfoldable pub with_count : ℕ → ℤ → Answer
-with_count condition count = accepted (pos condition ∷ (if condition =? 0 then count else pos 0) ∷ [])
+with_count condition count = accepted (pos condition ∷ (when condition =? 0 then count else pos 0) ∷ [])
 
 -- "Another gives an anchor's count": 13 broken; 10 no such anchor or property; else the count if the document shows the counts of the
 -- anchor's media, or the first condition that fails
 unfoldable pub give_count : Session → ℕ → ℕ → Answer
 give_count s a p =
-    if broken s then refused 13
-    else if not (a <? s.document.anchors.count && p <? s.document.properties) then refused 10
+    when broken s then refused 13
+    else when not (a <? s.document.anchors.count && p <? s.document.properties) then refused 10
     else with_count (failing s.document (anchor_at s.document.anchors a).media p) (count_of s.document p a)
 
 -- ---- the last anchor of m that started
@@ -163,12 +163,12 @@ is_start_of d m x = x.class =? of_anchor && x.transition =? starts && is_anchor_
 -- the last anchor of m whose start is among the lines; `last` if there is none
 unfoldable pub last_started : Document → ℕ → ℕ → List Line → ℕ
 last_started d m last [] = last
-last_started d m last (x ∷ xs) = last_started d m (if is_start_of d m x then x.id else last) xs
+last_started d m last (x ∷ xs) = last_started d m (when is_start_of d m x then x.id else last) xs
 
 -- its count; the value `before` if there is none (255 is no anchor's id)
 unfoldable pub last_count : Document → ℕ → ℕ → ℤ → List Line → ℤ
 last_count d m p before lines =
-    if last_started d m no_id lines =? no_id then before else count_of d p (last_started d m no_id lines)
+    when last_started d m no_id lines =? no_id then before else count_of d p (last_started d m no_id lines)
 
 -- ---- the statement
 

@@ -1,6 +1,6 @@
 -- Demand 3: what holds after every list of commands, keys and ticks, from the session of every document that loads.
 use Rattle.std.specs.Prelude.{ℕ, ◌+◌, ◌%◌, ◌<◌, ◌≤◌, Bool, false, ◌&&◌, List, [], ◌∷◌, ◌↔◌, ◌≡◌, pos}
-use Rattle.base.specs.Tests.{if◌then◌else◌, ◌=?◌}
+use Rattle.base.specs.Tests.{when◌then◌else◌, ◌=?◌}
 use Rattle.machine.specs.Terms.{sleeping, occurring, paused, starts, stops, aborts, of_node, of_anchor, of_property, of_fired}
 use Rattle.machine.specs.Tables.{is_media, parent_of, anchor_at}
 use Rattle.machine.specs.Load.{load}
@@ -19,7 +19,7 @@ use Rattle.machine.specs.declared.Line.{Line}
 -- how many lines pass a test
 unfoldable pub number : (Line → Bool) → List Line → ℕ
 number test [] = 0
-number test (l ∷ ls) = (if test l then 1 else 0) + number test ls
+number test (l ∷ ls) = (when test l then 1 else 0) + number test ls
 
 unfoldable pub is_line : ℕ → ℕ → ℕ → Line → Bool
 is_line class id transition l = l.class =? class && l.id =? id && l.transition =? transition

@@ -1,8 +1,8 @@
 -- "Events and commands". A step changes the run of a call: the states, the log and the firings.
 use Rattle.std.specs.Prelude.{ℕ, zero, suc, ◌+◌, ◌-◌, ◌%◌, Bool, not, ◌&&◌, ◌||◌, List, [], ◌∷◌, ℤ, get_or, set}
-use Rattle.base.specs.Tests.{if◌then◌else◌, ◌=?◌, ◌<?◌, ◌≤?◌}
+use Rattle.base.specs.Tests.{when◌then◌else◌, ◌=?◌, ◌<?◌, ◌≤?◌}
 use Rattle.base.specs.Loops.{ascending, descending, some, first}
-use Rattle.machine.specs.Terms.{context, media, sleeping, occurring, paused, to_start, to_abort, to_resume, to_set, no_transition, starts, stops, aborts, pauses, resumes, of_node, of_anchor, of_property, no_id}
+use Rattle.machine.specs.Terms.{context, sleeping, occurring, paused, to_start, to_abort, to_resume, to_set, no_transition, starts, stops, aborts, pauses, resumes, of_node, of_anchor, of_property, no_id}
 use Rattle.machine.specs.Tables.{type_of, parent_of, is_media, anchor_at, bind_at, port_at, with_node_events, with_anchor_events, with_property_events, with_choices}
 use Rattle.machine.specs.Records.{is_default}
 use Rattle.machine.specs.Deciding.{rule_holds}
@@ -48,19 +48,19 @@ awake state = not (state =? sleeping)
 -- or aborts; no change is no transition
 unfoldable pub transition : Bool → ℕ → ℕ → ℕ
 transition aborting old new =
-    if old =? new then no_transition
-    else if new =? sleeping then (if aborting then aborts else stops)
-    else if old =? sleeping then starts
-    else if new =? occurring then resumes
+    when old =? new then no_transition
+    else when new =? sleeping then (when aborting then aborts else stops)
+    else when old =? sleeping then starts
+    else when new =? occurring then resumes
     else pauses
 
 -- "Each stops adds one to the event's occurrence count, which wraps at 4,294,967,296; aborts adds none."
 unfoldable pub counted : ℕ → ℕ → ℕ
-counted change count = if change =? stops then (count + 1) % 4_294_967_296 else count
+counted change count = when change =? stops then (count + 1) % 4_294_967_296 else count
 
 -- "Waking sets the clock to 0; so does going to sleep."
 unfoldable pub clocked : ℕ → ℕ → ℕ
-clocked change clock = if change ≤? aborts then 0 else clock
+clocked change clock = when change ≤? aborts then 0 else clock
 
 abbrev pub with_state : State → Log → Run → Run
 with_state state log r = record { state = state; log = log; firings = r.firings }
@@ -83,7 +83,7 @@ with_value p value count s =
 -- node n changes to the state, and its line is logged; nothing if there is no transition
 unfoldable pub node_changed : ℕ → ℕ → ℕ → Run → Run
 node_changed n new change r =
-    if change =? no_transition then r
+    when change =? no_transition then r
     else with_state
     (with_node n new (clocked change (node_clock r.state n)) (counted change (node_count r.state n)) r.state)
     (logged (line of_node n change) r.log)
@@ -94,7 +94,7 @@ node_to aborting n new r = node_changed n new (transition aborting (node_state r
 
 unfoldable pub anchor_changed : ℕ → ℕ → ℕ → Run → Run
 anchor_changed a new change r =
-    if change =? no_transition then r
+    when change =? no_transition then r
     else with_state
     (with_anchor a new (counted change (anchor_count r.state a)) r.state)
     (logged (line of_anchor a change) r.log)
@@ -138,13 +138,13 @@ is_awake begin end state = awake state
 
 -- "An anchor follows its media: on start those with begin 0 start; on pause, resume, stop, abort its awake ones do likewise."
 unfoldable pub follows : ℕ → ℕ → ℕ → ℕ → Bool
-follows action = if action =? to_start then begins_at 0 else is_awake
+follows action = when action =? to_start then begins_at 0 else is_awake
 
 -- anchor a, if it is one of media n that move, goes to the state
 unfoldable pub anchor_moved : Anchors → (ℕ → ℕ → ℕ → Bool) → Bool → ℕ → ℕ → ℕ → Run → Run
 anchor_moved anchors moves aborting n new a r =
     let anchor = anchor_at anchors a in
-    if anchor.media =? n && moves anchor.begin anchor.end (anchor_state r.state a)
+    when anchor.media =? n && moves anchor.begin anchor.end (anchor_state r.state a)
     then anchor_to aborting a new r
     else r
 
@@ -159,7 +159,7 @@ line_first action = action =? to_start || action =? to_resume
 unfoldable pub media_to : Anchors → ℕ → ℕ → ℕ → Run → Run
 media_to anchors action n new r =
     let aborting = action =? to_abort in
-    if line_first action
+    when line_first action
     then anchors_moved anchors (follows action) aborting n new (node_to aborting n new r)
     else node_to aborting n new (anchors_moved anchors (follows action) aborting n new r)
 
@@ -168,7 +168,7 @@ unfoldable pub media_moved : Anchors → ℕ → ℕ → Run → Run
 media_moved anchors action n r =
     let old = node_state r.state n in
     let new = next_state old action in
-    if old =? new then r else media_to anchors action n new r
+    when old =? new then r else media_to anchors action n new r
 
 -- ---- start
 
@@ -182,7 +182,7 @@ bind_holds binds rules values n b =
 unfoldable pub found_bind : Binds → Rules → List ℤ → ℕ → ℕ
 found_bind binds rules values n =
     let b = first (bind_holds binds rules values n) binds.count 0 in
-    if b <? binds.count then b else first (is_default binds n) binds.count 0
+    when b <? binds.count then b else first (is_default binds n) binds.count 0
 
 -- the run with these choices
 abbrev pub choices_set : List ℕ → Run → Run
@@ -194,7 +194,7 @@ choice_made n child r = choices_set (set r.state.choices n child) r
 
 -- where `start` starts a child: "A sleeping context starts its ports' children in record order"
 unfoldable pub port_started : Document → (ℕ → Run → Run) → ℕ → ℕ → Run → Run
-port_started d start n p r = if (port_at d.ports p).context =? n then start (port_at d.ports p).child r else r
+port_started d start n p r = when (port_at d.ports p).context =? n then start (port_at d.ports p).child r else r
 
 unfoldable pub context_started : Document → (ℕ → Run → Run) → ℕ → Run → Run
 context_started d start n r = ascending (port_started d start n) d.ports.count r
@@ -204,16 +204,16 @@ context_started d start n r = ascending (port_started d start n) d.ports.count r
 unfoldable pub switch_started : Document → (ℕ → Run → Run) → ℕ → Run → Run
 switch_started d start n r =
     let b = found_bind d.binds d.rules r.state.properties.values n in
-    if b <? d.binds.count
+    when b <? d.binds.count
     then start (bind_at d.binds b).child (choice_made n (bind_at d.binds b).child r)
     else choice_made n 0 r
 
 -- "Start of an awake composite does nothing."; Req 01: "Starting the child directly, or a switch already awake, leaves the choice."
 unfoldable pub started_one : Document → (ℕ → Run → Run) → ℕ → Run → Run
 started_one d start n r =
-    if is_media d.nodes n then media_moved d.anchors to_start n r
-    else if awake (node_state r.state n) then r
-    else if type_of d.nodes n =? context then context_started d start n r
+    when is_media d.nodes n then media_moved d.anchors to_start n r
+    else when awake (node_state r.state n) then r
+    else when type_of d.nodes n =? context then context_started d start n r
     else switch_started d start n r
 
 -- "contexts and switches nest in each other": a child's id is above its parent's, so 64 levels are enough
@@ -226,14 +226,14 @@ started d (suc levels) n r = started_one d (started d levels) n r
 -- node k is the target or lies below it: a parent's id is below its child's, so the way up from k ends at the target or passes it
 unfoldable pub leads_to : Nodes → ℕ → ℕ → ℕ → Bool
 leads_to nodes target zero k = k =? target
-leads_to nodes target (suc steps) k = if target <? k then leads_to nodes target steps (parent_of nodes k) else k =? target
+leads_to nodes target (suc steps) k = when target <? k then leads_to nodes target steps (parent_of nodes k) else k =? target
 
 abbrev pub is_below : Nodes → ℕ → ℕ → Bool
 is_below nodes target k = leads_to nodes target k k
 
 unfoldable pub moved_below : Document → ℕ → ℕ → ℕ → Run → Run
 moved_below d action target n r =
-    if is_media d.nodes n && is_below d.nodes target n then media_moved d.anchors action n r else r
+    when is_media d.nodes n && is_below d.nodes target n then media_moved d.anchors action n r else r
 
 unfoldable pub all_moved : Document → ℕ → ℕ → Run → Run
 all_moved d action target r = ascending (moved_below d action target) d.nodes.count r
@@ -247,8 +247,8 @@ child_in nodes states state c k = parent_of nodes k =? c && get_or states k 0 =?
 -- "The new state is occurring if a child is, else paused if a child is, else sleeping; with no child, sleeping."
 unfoldable pub children_state : Nodes → List ℕ → ℕ → ℕ
 children_state nodes states c =
-    if some (child_in nodes states occurring c) nodes.count then occurring
-    else if some (child_in nodes states paused c) nodes.count then paused
+    when some (child_in nodes states occurring c) nodes.count then occurring
+    else when some (child_in nodes states paused c) nodes.count then paused
     else sleeping
 
 -- "Only when the action is abort do the target and composites below it log aborts instead; those above log stops."
@@ -257,7 +257,7 @@ aborts_at nodes action target c = action =? to_abort && is_below nodes target c
 
 unfoldable pub settled_one : Nodes → ℕ → ℕ → ℕ → Run → Run
 settled_one nodes action target c r =
-    if is_media nodes c then r
+    when is_media nodes c then r
     else node_to (aborts_at nodes action target c) c (children_state nodes r.state.nodes.states c) r
 
 -- "composites by descending id"
@@ -268,8 +268,8 @@ settled nodes action target r = descending (settled_one nodes action target) nod
 
 unfoldable pub performed : Document → ActionRecord → Run → Run
 performed d a r =
-    if a.action =? to_set then set_property a.target a.value r
-    else if a.action =? to_start then started d 64 a.target r
+    when a.action =? to_set then set_property a.target a.value r
+    else when a.action =? to_start then started d 64 a.target r
     else all_moved d a.action a.target r
 
 unfoldable pub acted : Document → ActionRecord → Run → Run

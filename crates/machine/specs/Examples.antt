@@ -1,7 +1,7 @@
 -- 01's starred examples, and one for each of its traps, from the bytes of a document: one list, one theorem, proved by computing.
 use Rattle.std.specs.Prelude.{ℕ, ◌+◌, ◌*◌, ◌-◌, List, [], ◌∷◌, ◌++◌, ◌≡◌, refl, ℤ, pos, negsuc}
 use Prim.Native.String.{String}
-use Rattle.base.specs.Tests.{if◌then◌else◌, ◌=?◌, ◌<?◌}
+use Rattle.base.specs.Tests.{when◌then◌else◌, ◌=?◌, ◌<?◌}
 use Rattle.machine.specs.Terms.{sleeping, occurring, paused, to_start, to_stop, to_abort, to_pause, to_set, of_node, of_anchor, of_property}
 use Rattle.machine.specs.Answers.{Answer}
 use Rattle.machine.specs.Load.{load}
@@ -16,12 +16,12 @@ use Rattle.machine.specs.declared.Call.TheVariants.{Key, Tick}
 -- ---- bytes, written in hexadecimal with blanks between them
 
 unfoldable pub digit : ℕ → ℕ
-digit c = if c <? 65 then c - 48 else c - 55
+digit c = when c <? 65 then c - 48 else c - 55
 
 unfoldable pub pairs : List ℕ → List ℕ
 pairs [] = []
 pairs (c ∷ []) = []
-pairs (c ∷ e ∷ cs) = if c =? 32 then pairs (e ∷ cs) else (16 * digit c + digit e) ∷ pairs cs
+pairs (c ∷ e ∷ cs) = when c =? 32 then pairs (e ∷ cs) else (16 * digit c + digit e) ∷ pairs cs
 
 unfoldable pub bytes : String → List ℕ
 bytes hex = pairs (text hex)

@@ -1,6 +1,6 @@
 -- "Load. The first faulty record decides; within it, in this order: 2 .. 1 .. 3 .. 4 .. 5 .. 6 .. 7."
 use Rattle.std.specs.Prelude.{ℕ, zero, suc, not, ◌&&◌, List, [], ◌∷◌, length, take, drop}
-use Rattle.base.specs.Tests.{if◌then◌else◌, ◌=?◌, ◌<?◌}
+use Rattle.base.specs.Tests.{when◌then◌else◌, ◌=?◌, ◌<?◌}
 use Rattle.machine.specs.Answers.{Answer, accepted, refused}
 use Rattle.machine.specs.Tables.{empty_session}
 use Rattle.machine.specs.Records.{greatest_kind, body_length, record_of, record_fault, entered}
@@ -20,15 +20,15 @@ and_then (faulty number) next = faulty number
 
 -- the outcome, unless there is a fault before it
 unfoldable pub unless : {A : Type 0} → ℕ → OrFault A → OrFault A
-unless fault outcome = if fault =? 0 then outcome else faulty fault
+unless fault outcome = when fault =? 0 then outcome else faulty fault
 
 -- ---- bytes cut into records
 
 -- the record that begins with the byte `kind`, before the bytes `rest`: "2 kind above 9; 1 bytes end inside it"
 unfoldable pub cut_at : ℕ → List ℕ → OrFault Record
 cut_at kind rest =
-    if greatest_kind <? kind then faulty 2
-    else if length rest <? body_length kind then faulty 1
+    when greatest_kind <? kind then faulty 2
+    else when length rest <? body_length kind then faulty 1
     else good (record_of kind (take (body_length kind) rest))
 
 -- the records of the bytes, at most so many; what follows a faulty one means nothing, and is not entered
@@ -53,10 +53,10 @@ records_entered place (first ∷ rest) s = and_then (checked place s.document fi
 -- "3 not a head in first place, a head elsewhere, or limit 0": of a head and of another record.
 -- A record is in first place while the tables have no limit yet.
 abbrev pub head_fault : Document → ℕ → ℕ
-head_fault d limit = if d.limit =? 0 && not (limit =? 0) then 0 else 3
+head_fault d limit = when d.limit =? 0 && not (limit =? 0) then 0 else 3
 
 abbrev pub other_fault : Document → ℕ
-other_fault d = if d.limit =? 0 then 3 else 0
+other_fault d = when d.limit =? 0 then 3 else 0
 
 unfoldable pub place_fault : Document → Record → ℕ
 place_fault d (Head limit) = head_fault d limit
@@ -81,8 +81,8 @@ load_refused number = record { answer = refused number; session = empty_session 
 unfoldable pub finished : OrFault Session → LoadResult
 finished (faulty number) = load_refused number
 finished (good s) =
-    if s.document.limit =? 0 then load_refused 3
-    else if s.document.nodes.count =? 0 then load_refused 8
+    when s.document.limit =? 0 then load_refused 3
+    else when s.document.nodes.count =? 0 then load_refused 8
     else record { answer = accepted []; session = s }
 
 -- a record has at least one byte, so there are no more records than bytes

@@ -1,6 +1,6 @@
 -- The log of a call: its lines, the room for lines in the slice, and what stops the call.
 use Rattle.std.specs.Prelude.{ℕ, zero, suc, ◌-◌, ◌*◌, ◌/◌, List, [], ◌∷◌, ◌++◌, length, replicate}
-use Rattle.base.specs.Tests.{if◌then◌else◌, ◌=?◌, ◌<?◌}
+use Rattle.base.specs.Tests.{when◌then◌else◌, ◌=?◌, ◌<?◌}
 use Rattle.machine.specs.declared.Line.{Line}
 
 -- "A log line is 4 bytes: class, id, transition, 0."
@@ -19,12 +19,12 @@ empty_log bytes = record { lines = []; room = bytes / 4; stop = 0 }
 
 -- a refusal is met: "The one met first is given"
 abbrev pub met : ℕ → Log → Log
-met number g = record { lines = g.lines; room = g.room; stop = if g.stop =? 0 then number else g.stop }
+met number g = record { lines = g.lines; room = g.room; stop = when g.stop =? 0 then number else g.stop }
 
 -- one line more; "12 when a line doesn't fit"
 unfoldable pub logged : Line → Log → Log
 logged l g =
-    if length g.lines <? g.room
+    when length g.lines <? g.room
     then record { lines = g.lines ++ (l ∷ []); room = g.room; stop = g.stop }
     else met 12 g
 

@@ -1,6 +1,6 @@
 -- The operations beside load: command, key, tick and read; and lists of calls.
 use Rattle.std.specs.Prelude.{ℕ, Bool, false, not, ◌&&◌, List, [], ◌∷◌, ◌++◌, ℤ, pos, get_or}
-use Rattle.base.specs.Tests.{if◌then◌else◌, ◌=?◌, ◌≤?◌}
+use Rattle.base.specs.Tests.{when◌then◌else◌, ◌=?◌, ◌≤?◌}
 use Rattle.machine.specs.Terms.{sleeping, to_set, of_node, of_anchor, of_property}
 use Rattle.machine.specs.Answers.{Answer, accepted, refused}
 use Rattle.machine.specs.Records.{action_right, target_given, subject_given}
@@ -34,8 +34,8 @@ command action target value = Command (record { action = action; target = target
 -- "9 action not 1 to 6, or value not 0 for 1 to 5; 10 no such target"
 unfoldable pub command_fault : Document → ActionRecord → ℕ
 command_fault d a =
-    if not (action_right a.action a.value) then 9
-    else if not (target_given d a.action a.target) then 10
+    when not (action_right a.action a.value) then 9
+    else when not (target_given d a.action a.target) then 10
     else 0
 
 -- the refusals of a call's arguments
@@ -71,7 +71,7 @@ call_refused number s bytes = record { answer = refused number; session = s; log
 -- how a call ends: it is accepted if nothing stopped it
 unfoldable pub ended : Session → ℕ → Run → CallResult
 ended s bytes r =
-    if goes_on r
+    when goes_on r
     then record {
       answer = accepted (pos r.firings ∷ []);
       session = record { document = s.document; state = r.state };
@@ -82,8 +82,8 @@ ended s bytes r =
 -- "Command. 13 broken session; 9 ..; 10 ..; then 11 or 12 as under Chain." "Key, tick. 13; then 11 or 12."
 unfoldable pub call_admitting : OwnerTest → Session → Call → ℕ → CallResult
 call_admitting admits s c bytes =
-    if broken s then call_refused 13 s bytes
-    else if not (argument_fault s.document c =? 0) then call_refused (argument_fault s.document c) s bytes
+    when broken s then call_refused 13 s bytes
+    else when not (argument_fault s.document c =? 0) then call_refused (argument_fault s.document c) s bytes
     else ended s bytes (run_admitting admits s c bytes)
 
 -- the machine admits the owners that Req 01 does
@@ -101,15 +101,15 @@ reading state value count = accepted (pos state ∷ value ∷ pos count ∷ [])
 
 unfoldable pub read_state : State → ℕ → ℕ → Answer
 read_state s class id =
-    if class =? of_node then reading (node_state s id) (pos 0) (node_count s id)
-    else if class =? of_anchor then reading (anchor_state s id) (pos 0) (anchor_count s id)
+    when class =? of_node then reading (node_state s id) (pos 0) (node_count s id)
+    else when class =? of_anchor then reading (anchor_state s id) (pos 0) (anchor_count s id)
     else reading sleeping (get_or s.properties.values id (pos 0)) (property_count s id)
 
 unfoldable pub read : Session → ℕ → ℕ → Answer
 read s class id =
-    if broken s then refused 13
-    else if not (of_node ≤? class && class ≤? of_property) then refused 9
-    else if not (subject_given s.document class id) then refused 10
+    when broken s then refused 13
+    else when not (of_node ≤? class && class ≤? of_property) then refused 9
+    else when not (subject_given s.document class id) then refused 10
     else read_state s.state class id
 
 -- ---- lists of calls, each with the length of its log slice
@@ -126,4 +126,4 @@ results_of s ((c, bytes) ∷ calls) = let r = call s c bytes in r ∷ results_of
 -- "The joined logs are the lines of the accepted calls, in the order of the calls."
 unfoldable pub joined : List CallResult → List Line
 joined [] = []
-joined (r ∷ rs) = (if r.answer.refusal =? 0 then lines_of r.log else []) ++ joined rs
+joined (r ∷ rs) = (when r.answer.refusal =? 0 then lines_of r.log else []) ++ joined rs

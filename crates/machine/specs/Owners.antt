@@ -1,6 +1,6 @@
 -- What firing asks of a link's owner. Req 01: "A link's owner now matters."
 use Rattle.std.specs.Prelude.{ℕ, zero, suc, Bool, true, not, ◌&&◌, ◌||◌, List, get_or}
-use Rattle.base.specs.Tests.{if◌then◌else◌, ◌=?◌}
+use Rattle.base.specs.Tests.{when◌then◌else◌, ◌=?◌}
 use Rattle.machine.specs.Terms.{switch}
 use Rattle.machine.specs.Tables.{type_of, parent_of}
 use Rattle.machine.specs.declared.Nodes.{Nodes}
@@ -10,7 +10,7 @@ use Rattle.machine.specs.declared.State.{State}
 -- a test of each node on the path up from n, node 0 left out: a parent's id is below its child's, so n steps are enough
 unfoldable pub each_up : Nodes → (ℕ → Bool) → ℕ → ℕ → Bool
 each_up nodes test zero n = true
-each_up nodes test (suc steps) n = if n =? 0 then true else test n && each_up nodes test steps (parent_of nodes n)
+each_up nodes test (suc steps) n = when n =? 0 then true else test n && each_up nodes test steps (parent_of nodes n)
 
 abbrev pub on_path : Nodes → (ℕ → Bool) → ℕ → Bool
 on_path nodes test n = each_up nodes test n n

@@ -1,6 +1,6 @@
 -- "The printed run": what the program prints for the bytes of its two files. Text is a list of character codes.
 use Rattle.std.specs.Prelude.{ℕ, zero, suc, ◌+◌, Bool, ◌&&◌, List, [], ◌∷◌, ◌++◌, ℤ, pos, negsuc, length, get_or, take, drop}
-use Rattle.base.specs.Tests.{if◌then◌else◌, ◌=?◌, ◌≤?◌}
+use Rattle.base.specs.Tests.{when◌then◌else◌, ◌=?◌, ◌≤?◌}
 use Rattle.machine.specs.Text.{text, decimal}
 use Rattle.machine.specs.Fields.{byte}
 use Rattle.machine.specs.Records.{action_of}
@@ -30,7 +30,7 @@ firings_of (negsuc n ∷ values) = 0
 unfoldable pub printed_call : ℕ → CallResult → List ℕ
 printed_call number r =
     decimal number
-    ++ (if r.answer.refusal =? 0
+    ++ (when r.answer.refusal =? 0
     then text " ok " ++ decimal (length (lines_of r.log)) ++ text " " ++ decimal (firings_of r.answer.values) ++ printed_lines (lines_of r.log)
     else text " no " ++ decimal r.answer.refusal)
     ++ text "\n"
@@ -52,8 +52,8 @@ is_call kind rest = is_script_kind kind && script_length kind ≤? length rest
 
 unfoldable pub call_of : ℕ → List ℕ → Call
 call_of kind body =
-    if kind =? 1 then Command (action_of body)
-    else if kind =? 2 then Key (byte body 0)
+    when kind =? 1 then Command (action_of body)
+    else when kind =? 2 then Key (byte body 0)
     else Tick
 
 -- ---- the run
@@ -63,7 +63,7 @@ unfoldable pub printed_script : ℕ → ℕ → List ℕ → Session → List �
 printed_script zero n script s = []
 printed_script (suc most) n [] s = []
 printed_script (suc most) n (kind ∷ rest) s =
-    if is_call kind rest
+    when is_call kind rest
     then (let r = call s (call_of kind (take (script_length kind) rest)) 65_536 in
     printed_call n r ++ printed_script most (n + 1) (drop (script_length kind) rest) r.session)
     else text "script\n"
@@ -72,6 +72,6 @@ printed_script (suc most) n (kind ∷ rest) s =
 unfoldable pub printed_run : List ℕ → List ℕ → List ℕ
 printed_run doc script =
     let l = load doc in
-    if l.answer.refusal =? 0
+    when l.answer.refusal =? 0
     then printed_script (length script) 1 script l.session
     else text "doc " ++ decimal l.answer.refusal ++ text "\n"

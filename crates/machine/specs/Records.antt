@@ -2,7 +2,7 @@
 -- A fault is the number of the first refusal that applies, in the order 4, 5, 6, 7; 0 is none. Each fault is asked of the record as entry
 -- `id` of its table, so that loading (the next id) and the check of a session (each id) share one rule.
 use Rattle.std.specs.Prelude.{ℕ, ◌+◌, ◌*◌, Bool, true, false, not, ◌&&◌, ◌||◌, List, [], ◌∷◌, ℤ, pos, get_or, set}
-use Rattle.base.specs.Tests.{if◌then◌else◌, ◌=?◌, ◌<?◌, ◌≤?◌, equal_ints}
+use Rattle.base.specs.Tests.{when◌then◌else◌, ◌=?◌, ◌<?◌, ◌≤?◌, equal_ints}
 use Rattle.base.specs.Loops.{some}
 use Rattle.machine.specs.Terms.{context, media, switch, to_start, to_set, starts, stops, resumes, of_node, of_anchor, of_property, of_key, simple_rule, composite_rule, no_id}
 use Rattle.machine.specs.Fields.{byte, u16, i32}
@@ -49,17 +49,17 @@ unfoldable pub node_fields_right : ℕ → NodeRecord → Bool
 node_fields_right id r =
     r.node_type ≤? switch
     && (r.node_type =? media || r.duration =? 0)
-    && (if id =? 0 then r.node_type =? context && r.parent =? no_id else true)
+    && (when id =? 0 then r.node_type =? context && r.parent =? no_id else true)
 
 -- "another node's parent is an earlier context or switch"
 unfoldable pub parent_right : Nodes → ℕ → NodeRecord → Bool
-parent_right nodes id r = if id =? 0 then true else r.parent <? id && not (type_of nodes r.parent =? media)
+parent_right nodes id r = when id =? 0 then true else r.parent <? id && not (type_of nodes r.parent =? media)
 
 unfoldable pub node_fault : Nodes → ℕ → NodeRecord → ℕ
 node_fault nodes id r =
-    if 64 ≤? id then 4
-    else if not (node_fields_right id r) then 5
-    else if not (parent_right nodes id r) then 6
+    when 64 ≤? id then 4
+    else when not (node_fields_right id r) then 5
+    else when not (parent_right nodes id r) then 6
     else 0
 
 -- ---- "2 anchor, 5 bytes: media, begin u16, end u16, begin < end, and end ≤ duration unless that is 0. At most 128 anchors in a document."
@@ -69,10 +69,10 @@ anchor_of body = record { media = byte body 0; begin = u16 body 1; end = u16 bod
 
 unfoldable pub anchor_fault : Nodes → ℕ → AnchorRecord → ℕ
 anchor_fault nodes id r =
-    if 128 ≤? id then 4
-    else if not (r.begin <? r.end) then 5
-    else if not (given nodes media r.media) then 6
-    else if not (duration_of nodes r.media =? 0 || r.end ≤? duration_of nodes r.media) then 7
+    when 128 ≤? id then 4
+    else when not (r.begin <? r.end) then 5
+    else when not (given nodes media r.media) then 6
+    else when not (duration_of nodes r.media =? 0 || r.end ≤? duration_of nodes r.media) then 7
     else 0
 
 -- ---- "3 property, 4 bytes: first value i32. At most 32."
@@ -81,7 +81,7 @@ abbrev pub property_of : List ℕ → PropertyRecord
 property_of body = record { value = i32 body 0 }
 
 unfoldable pub property_fault : ℕ → ℕ
-property_fault id = if 32 ≤? id then 4 else 0
+property_fault id = when 32 ≤? id then 4 else 0
 
 -- ---- "4 rule, 6 bytes: property, comparator (0 eq, 1 ne, 2 lt, 3 gt, 4 lte, 5 gte), value i32"
 -- ---- "5 composite rule, 3 bytes: operator (0 and, 1 or), two earlier rules of either kind. Kinds 4 and 5 share ids, at most 32."
@@ -96,20 +96,20 @@ composite_rule_of body =
 
 unfoldable pub simple_rule_fault : ℕ → RuleRecord → ℕ
 simple_rule_fault properties r =
-    if 5 <? r.comparator then 5
-    else if not (r.property <? properties) then 6
+    when 5 <? r.comparator then 5
+    else when not (r.property <? properties) then 6
     else 0
 
 unfoldable pub composite_rule_fault : ℕ → RuleRecord → ℕ
 composite_rule_fault id r =
-    if 1 <? r.operator then 5
-    else if not (r.left <? id && r.right <? id) then 6
+    when 1 <? r.operator then 5
+    else when not (r.left <? id && r.right <? id) then 6
     else 0
 
 unfoldable pub rule_fault : ℕ → ℕ → RuleRecord → ℕ
 rule_fault properties id r =
-    if 32 ≤? id then 4
-    else if r.kind =? simple_rule then simple_rule_fault properties r
+    when 32 ≤? id then 4
+    else when r.kind =? simple_rule then simple_rule_fault properties r
     else composite_rule_fault id r
 
 -- ---- "6 bind, 3 bytes: switch, its child, rule; rule 255 marks the default, one a switch. At most 64."
@@ -123,10 +123,10 @@ is_default binds n b = (bind_at binds b).switch =? n && (bind_at binds b).rule =
 
 unfoldable pub bind_fault : Document → ℕ → BindRecord → ℕ
 bind_fault d id r =
-    if 64 ≤? id then 4
-    else if not (given d.nodes switch r.switch && r.child <? d.nodes.count && (r.rule =? no_id || r.rule <? d.rules.count)) then 6
-    else if not (parent_of d.nodes r.child =? r.switch) then 7
-    else if r.rule =? no_id && some (is_default d.binds r.switch) id then 7
+    when 64 ≤? id then 4
+    else when not (given d.nodes switch r.switch && r.child <? d.nodes.count && (r.rule =? no_id || r.rule <? d.rules.count)) then 6
+    else when not (parent_of d.nodes r.child =? r.switch) then 7
+    else when r.rule =? no_id && some (is_default d.binds r.switch) id then 7
     else 0
 
 -- ---- "7 port, 2 bytes: context, its child. At most 64, no pair twice."
@@ -139,10 +139,10 @@ is_port ports r p = (port_at ports p).context =? r.context && (port_at ports p).
 
 unfoldable pub port_fault : Document → ℕ → PortRecord → ℕ
 port_fault d id r =
-    if 64 ≤? id then 4
-    else if not (given d.nodes context r.context && r.child <? d.nodes.count) then 6
-    else if not (parent_of d.nodes r.child =? r.context) then 7
-    else if some (is_port d.ports r) id then 7
+    when 64 ≤? id then 4
+    else when not (given d.nodes context r.context && r.child <? d.nodes.count) then 6
+    else when not (parent_of d.nodes r.child =? r.context) then 7
+    else when some (is_port d.ports r) id then 7
     else 0
 
 -- ---- "8 link, 5 bytes: owner (a context), class, subject, transition, guard rule (255: none). At most 64."
@@ -154,24 +154,24 @@ link_of body = record { owner = byte body 0; class = byte body 1; subject = byte
 unfoldable pub transition_right : ℕ → ℕ → Bool
 transition_right class transition =
     starts ≤? transition
-    && (if class =? of_node || class =? of_anchor then transition ≤? resumes
-    else if class =? of_property then transition ≤? stops
-    else if class =? of_key then transition ≤? starts
+    && (when class =? of_node || class =? of_anchor then transition ≤? resumes
+    else when class =? of_property then transition ≤? stops
+    else when class =? of_key then transition ≤? starts
     else false)
 
 -- an event's subject is given: a node, an anchor, a property; of a key "any byte"
 unfoldable pub subject_given : Document → ℕ → ℕ → Bool
 subject_given d class id =
-    if class =? of_node then id <? d.nodes.count
-    else if class =? of_anchor then id <? d.anchors.count
-    else if class =? of_property then id <? d.properties
+    when class =? of_node then id <? d.nodes.count
+    else when class =? of_anchor then id <? d.anchors.count
+    else when class =? of_property then id <? d.properties
     else true
 
 unfoldable pub link_fault : Document → ℕ → LinkRecord → ℕ
 link_fault d id r =
-    if 64 ≤? id then 4
-    else if not (transition_right r.class r.transition) then 5
-    else if not (given d.nodes context r.owner && subject_given d r.class r.subject && (r.guard =? no_id || r.guard <? d.rules.count)) then 6
+    when 64 ≤? id then 4
+    else when not (transition_right r.class r.transition) then 5
+    else when not (given d.nodes context r.owner && subject_given d r.class r.subject && (r.guard =? no_id || r.guard <? d.rules.count)) then 6
     else 0
 
 -- ---- "9 action, 6 bytes: action, target, value i32; belongs to the latest link, at most 8 each."
@@ -184,14 +184,14 @@ unfoldable pub action_right : ℕ → ℤ → Bool
 action_right action value = to_start ≤? action && action ≤? to_set && (action =? to_set || equal_ints value (pos 0))
 
 unfoldable pub target_given : Document → ℕ → ℕ → Bool
-target_given d action target = if action =? to_set then target <? d.properties else target <? d.nodes.count
+target_given d action target = when action =? to_set then target <? d.properties else target <? d.nodes.count
 
 -- action `id` of a link; "an action before any link" is 6
 unfoldable pub action_fault : Document → ℕ → ActionRecord → ℕ
 action_fault d id r =
-    if 8 ≤? id then 4
-    else if not (action_right r.action r.value) then 5
-    else if not (1 ≤? d.links.count && target_given d r.action r.target) then 6
+    when 8 ≤? id then 4
+    else when not (action_right r.action r.value) then 5
+    else when not (1 ≤? d.links.count && target_given d r.action r.target) then 6
     else 0
 
 -- ---- a record of any kind
@@ -199,15 +199,15 @@ action_fault d id r =
 -- the record of a kind and a body
 unfoldable pub record_of : ℕ → List ℕ → Record
 record_of kind body =
-    if kind =? 0 then Head (limit_of body)
-    else if kind =? 1 then Node (node_of body)
-    else if kind =? 2 then Anchor (anchor_of body)
-    else if kind =? 3 then Property (property_of body)
-    else if kind =? simple_rule then Rule (simple_rule_of body)
-    else if kind =? composite_rule then Rule (composite_rule_of body)
-    else if kind =? 6 then Bind (bind_of body)
-    else if kind =? 7 then Port (port_of body)
-    else if kind =? 8 then Link (link_of body)
+    when kind =? 0 then Head (limit_of body)
+    else when kind =? 1 then Node (node_of body)
+    else when kind =? 2 then Anchor (anchor_of body)
+    else when kind =? 3 then Property (property_of body)
+    else when kind =? simple_rule then Rule (simple_rule_of body)
+    else when kind =? composite_rule then Rule (composite_rule_of body)
+    else when kind =? 6 then Bind (bind_of body)
+    else when kind =? 7 then Port (port_of body)
+    else when kind =? 8 then Link (link_of body)
     else Action (action_of body)
 
 -- its fault, as the next entry of its table; a head has none

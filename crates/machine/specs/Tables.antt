@@ -1,7 +1,7 @@
 -- The tables of a session: the empty session, what a table says of an id, an entry as a record, a table as its columns, and a table with one entry more.
 use Rattle.std.specs.Prelude.{ℕ, ◌+◌, ◌-◌, ◌*◌, Bool, ◌&&◌, List, [], ◌∷◌, ℤ, pos, get_or, set, take, drop, replicate}
 use Rattle.base.specs.Tests.{◌=?◌, ◌<?◌}
-use Rattle.machine.specs.Terms.{context, media, switch, sleeping}
+use Rattle.machine.specs.Terms.{media, sleeping}
 use Rattle.machine.specs.declared.Nodes.{Nodes}
 use Rattle.machine.specs.declared.Anchors.{Anchors}
 use Rattle.machine.specs.declared.Rules.{Rules}

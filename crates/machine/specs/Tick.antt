@@ -1,6 +1,6 @@
 -- "Tick", and "Key logs one line".
 use Rattle.std.specs.Prelude.{ℕ, ◌+◌, false, ◌&&◌, set}
-use Rattle.base.specs.Tests.{if◌then◌else◌, ◌=?◌, ◌<?◌}
+use Rattle.base.specs.Tests.{when◌then◌else◌, ◌=?◌, ◌<?◌}
 use Rattle.base.specs.Loops.{ascending}
 use Rattle.machine.specs.Terms.{sleeping, occurring, to_stop, no_action, starts, of_key}
 use Rattle.machine.specs.Tables.{is_media, duration_of, with_node_events}
@@ -24,14 +24,14 @@ anchors_passed d n clock r =
 -- "then if duration = clock it stops as by the command"
 unfoldable pub passed : Document → ℕ → ℕ → Run → Run
 passed d n clock r =
-    if duration_of d.nodes n =? clock
+    when duration_of d.nodes n =? clock
     then media_moved d.anchors to_stop n (anchors_passed d n clock r)
     else anchors_passed d n clock r
 
 -- "each occurring media .. adds one to its clock"; "A clock at 65,535 stays, and that media's anchors and end aren't looked at."
 unfoldable pub ticked_one : Document → ℕ → Run → Run
 ticked_one d n r =
-    if is_media d.nodes n && node_state r.state n =? occurring && node_clock r.state n <? 65_535
+    when is_media d.nodes n && node_state r.state n =? occurring && node_clock r.state n <? 65_535
     then passed d n (node_clock r.state n + 1) r
     else r
 

@@ -1,13 +1,15 @@
 // The types of the report player. What its operations do is defined in specs/; there is no code here. 01's numbers by name are in `terms`.
 //
 // A session is written down in public numbers, laid out as in C, and anybody may write one: nothing is assumed of it.
+#![tactic(auto)]
+
 pub mod terms;
 
 // ---- the tables of a document: entry i of each array belongs to id i
 
 // Types: 0 context, 1 media, 2 switch.
 #[repr(C)]
-#[derive(Drop)]
+#[derive(Clone, Copy)]
 pub struct Nodes {
     pub count: usize,
     pub types: [u8; 64],
@@ -16,7 +18,7 @@ pub struct Nodes {
 }
 
 #[repr(C)]
-#[derive(Drop)]
+#[derive(Clone, Copy)]
 pub struct Anchors {
     pub count: usize,
     pub media: [u8; 128],
@@ -26,7 +28,7 @@ pub struct Anchors {
 
 // Kinds: 4 a simple rule, with property, comparator and value; 5 a composite rule, with operator, left and right rule.
 #[repr(C)]
-#[derive(Drop)]
+#[derive(Clone, Copy)]
 pub struct Rules {
     pub count: usize,
     pub kinds: [u8; 32],
@@ -40,7 +42,7 @@ pub struct Rules {
 
 // Rule 255 marks the default.
 #[repr(C)]
-#[derive(Drop)]
+#[derive(Clone, Copy)]
 pub struct Binds {
     pub count: usize,
     pub switches: [u8; 64],
@@ -49,7 +51,7 @@ pub struct Binds {
 }
 
 #[repr(C)]
-#[derive(Drop)]
+#[derive(Clone, Copy)]
 pub struct Ports {
     pub count: usize,
     pub contexts: [u8; 64],
@@ -58,7 +60,7 @@ pub struct Ports {
 
 // Guard 255: none.
 #[repr(C)]
-#[derive(Drop)]
+#[derive(Clone, Copy)]
 pub struct Links {
     pub count: usize,
     pub owners: [u8; 64],
@@ -71,7 +73,7 @@ pub struct Links {
 
 // Action j of link l is entry 8 l + j.
 #[repr(C)]
-#[derive(Drop)]
+#[derive(Clone, Copy)]
 pub struct Actions {
     pub actions: [u8; 512],
     pub targets: [u8; 512],
@@ -79,7 +81,7 @@ pub struct Actions {
 }
 
 #[repr(C)]
-#[derive(Drop)]
+#[derive(Clone, Copy)]
 pub struct Document {
     pub limit: u8,
     pub nodes: Nodes,
@@ -95,7 +97,7 @@ pub struct Document {
 // ---- what changes: states are 0 sleeping, 1 occurring, 2 paused; counts are of occurrences
 
 #[repr(C)]
-#[derive(Drop)]
+#[derive(Clone, Copy)]
 pub struct NodeEvents {
     pub states: [u8; 64],
     pub clocks: [u16; 64],
@@ -103,14 +105,14 @@ pub struct NodeEvents {
 }
 
 #[repr(C)]
-#[derive(Drop)]
+#[derive(Clone, Copy)]
 pub struct AnchorEvents {
     pub states: [u8; 128],
     pub counts: [u32; 128],
 }
 
 #[repr(C)]
-#[derive(Drop)]
+#[derive(Clone, Copy)]
 pub struct PropertyEvents {
     pub values: [i32; 32],
     pub counts: [u32; 32],
@@ -118,7 +120,7 @@ pub struct PropertyEvents {
 
 // Choices: the child that each switch chose last; 0 where there is none, and for a node that is no switch.
 #[repr(C)]
-#[derive(Drop)]
+#[derive(Clone, Copy)]
 pub struct State {
     pub nodes: NodeEvents,
     pub anchors: AnchorEvents,
@@ -127,7 +129,7 @@ pub struct State {
 }
 
 #[repr(C)]
-#[derive(Drop)]
+#[derive(Clone, Copy)]
 pub struct Session {
     pub document: Document,
     pub state: State,
@@ -135,26 +137,26 @@ pub struct Session {
 
 // ---- the fields of one record; of a rule, those that its kind has not are 0
 
-#[derive(Drop)]
+#[derive(Clone, Copy)]
 pub struct NodeRecord {
     pub node_type: u8,
     pub parent: u8,
     pub duration: u16,
 }
 
-#[derive(Drop)]
+#[derive(Clone, Copy)]
 pub struct AnchorRecord {
     pub media: u8,
     pub begin: u16,
     pub end: u16,
 }
 
-#[derive(Drop)]
+#[derive(Clone, Copy)]
 pub struct PropertyRecord {
     pub value: i32,
 }
 
-#[derive(Drop)]
+#[derive(Clone, Copy)]
 pub struct RuleRecord {
     pub kind: u8,
     pub property: u8,
@@ -165,20 +167,20 @@ pub struct RuleRecord {
     pub right: u8,
 }
 
-#[derive(Drop)]
+#[derive(Clone, Copy)]
 pub struct BindRecord {
     pub switch: u8,
     pub child: u8,
     pub rule: u8,
 }
 
-#[derive(Drop)]
+#[derive(Clone, Copy)]
 pub struct PortRecord {
     pub context: u8,
     pub child: u8,
 }
 
-#[derive(Drop)]
+#[derive(Clone, Copy)]
 pub struct LinkRecord {
     pub owner: u8,
     pub class: u8,
@@ -187,14 +189,14 @@ pub struct LinkRecord {
     pub guard: u8,
 }
 
-#[derive(Drop)]
+#[derive(Clone, Copy)]
 pub struct ActionRecord {
     pub action: u8,
     pub target: u8,
     pub value: i32,
 }
 
-#[derive(Drop)]
+#[derive(Clone, Copy)]
 pub enum Record {
     Head(u8),
     Node(NodeRecord),
@@ -209,7 +211,7 @@ pub enum Record {
 
 // ---- a call: a command has the fields of an action, a key its code
 
-#[derive(Drop)]
+#[derive(Clone, Copy)]
 pub enum Call {
     Command(ActionRecord),
     Key(u8),
@@ -218,7 +220,7 @@ pub enum Call {
 
 // ---- a log line: its 4 bytes, of which the last is 0
 
-#[derive(Drop)]
+#[derive(Clone, Copy)]
 pub struct Line {
     pub class: u8,
     pub id: u8,
@@ -229,7 +231,7 @@ pub struct Line {
 // ---- the answers of the operations
 
 // In the order of their numbers.
-#[derive(Drop)]
+#[derive(Clone, Copy)]
 pub enum Refusal {
     CutRecord,
     UnknownKind,
@@ -247,52 +249,52 @@ pub enum Refusal {
 }
 
 // What a check answers, and what stops a call: nothing, or a refusal.
-#[derive(Drop)]
+#[derive(Clone, Copy)]
 pub enum Check {
     Passed,
     Refused(Refusal),
 }
 
-#[derive(Drop)]
+#[derive(Clone, Copy)]
 pub enum LoadAnswer {
     Accepted,
     Refused(Refusal),
 }
 
-#[derive(Drop)]
+#[derive(Clone, Copy)]
 pub struct Loaded {
     pub answer: LoadAnswer,
     pub session: Session,
 }
 
 // An accepted call returns its firings.
-#[derive(Drop)]
+#[derive(Clone, Copy)]
 pub enum CallAnswer {
     Accepted(u8),
     Refused(Refusal),
 }
 
-#[derive(Drop)]
+#[derive(Clone, Copy)]
 pub struct Called {
     pub answer: CallAnswer,
     pub session: Session,
 }
 
-#[derive(Drop)]
+#[derive(Clone, Copy)]
 pub struct Reading {
     pub state: u8,
     pub value: i32,
     pub count: u32,
 }
 
-#[derive(Drop)]
+#[derive(Clone, Copy)]
 pub enum ReadAnswer {
     Found(Reading),
     Refused(Refusal),
 }
 
 // The conditions under which a document shows the counts of a media in a property, in the order of their numbers, 1 to 7.
-#[derive(Drop)]
+#[derive(Clone, Copy)]
 pub enum Condition {
     HasAnchor,
     AnchorsDisjoint,
@@ -304,7 +306,7 @@ pub enum Condition {
 }
 
 // Whether a document shows the counts, or the first condition that fails.
-#[derive(Drop)]
+#[derive(Clone, Copy)]
 pub enum CountsAnswer {
     Shown,
     Fails(Condition),
@@ -312,7 +314,7 @@ pub enum CountsAnswer {
 }
 
 // The count of an anchor whose media's counts a document shows, or the first condition that fails.
-#[derive(Drop)]
+#[derive(Clone, Copy)]
 pub enum CountAnswer {
     Count(i32),
     Fails(Condition),

@@ -1,4 +1,6 @@
 // What answers stand for: the numbers of refusals and conditions, and whether a check passed.
+#![tactic(auto)]
+
 ghost use Rattle.std.specs.Prelude.{◌≡◌};
 ghost use Rattle.base.specs.Tests.{◌=?◌};
 ghost use Rattle.machine.specs.Answers.{number_of, check_number, condition_number};

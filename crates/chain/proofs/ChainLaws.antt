@@ -5,7 +5,7 @@ use Prim.Native.Nat.{ℕ, suc, ◌+◌, ◌-◌, ◌<◌, ◌≤◌}
 use native.Mathlib.Omega.{arith}
 use borrow.Author.Tests.{lt-ltb, le-ltb}
 use lib.ListN.{length, get_or}
-use Rattle.base.specs.Tests.{if◌then◌else◌, ◌=?◌, ◌<?◌, by_test}
+use Rattle.base.specs.Tests.{when◌then◌else◌, ◌=?◌, ◌<?◌, by_test}
 use Rattle.base.specs.Loops.{ascending_none, ascending_idle}
 use Rattle.machine.specs.Tables.{link_at, action_count}
 use Rattle.machine.specs.Log.{line}
@@ -20,7 +20,7 @@ use Rattle.chain.specs.Trying.{may_fire, firing_begun}
 -- once something stops the call no action runs; and a link without actions runs none
 module _ (d : Document) (l : ℕ) (r : Run) where
   actions_idle : goes_on r ≡ false → actions_run d l r ≡ r
-  unfolding actions_run action_run if◌then◌else◌
+  unfolding actions_run action_run when◌then◌else◌
   actions_idle e = ascending_idle _ _ _ (λ k h. rw e)
 
   pub no_actions : action_count d.links l ≡ 0 → r ≡ actions_run d l r
@@ -28,12 +28,12 @@ module _ (d : Document) (l : ℕ) (r : Run) where
   no_actions e = rw e (ascending_none _ _)
 
 limit_stops : (r : Run) → goes_on (limit_met r) ≡ false
-unfolding goes_on limit_met if◌then◌else◌
+unfolding goes_on limit_met when◌then◌else◌
 limit_stops r = by_test (r.log.stop =? 0) (λ e. rw e) (λ e. rw (e, e))
 
 -- a firing is what it does before its actions, and then its actions
 begun_fired : (d : Document) (l : ℕ) (r : Run) → actions_run d l (firing_begun d.limit l r) ≡ fired d l r
-unfolding firing_begun fired if◌then◌else◌
+unfolding firing_begun fired when◌then◌else◌
 begun_fired d l r = by_test (r.firings <? d.limit) (λ e. rw e) (λ e. rw e (actions_idle d l _ (limit_stops r)))
 
 -- whether a link may fire, by what was asked of its owner
@@ -49,7 +49,7 @@ module _ (d : Document) (x : Line) (l : ℕ) (r : Run) where
 
   module _ {hears : Bool} (e : hears ≡ hearing) where
     pub not_heard : hears ≡ false → r ≡ link_tried owner_chosen d x l r
-    unfolding fires link_tried if◌then◌else◌
+    unfolding fires link_tried when◌then◌else◌
     not_heard h = rw (← e, h, and-false)
 
     module _ (h : hears ≡ true) {may : Bool} (f : may ≡ may_fire d l r) where
@@ -58,23 +58,23 @@ module _ (d : Document) (x : Line) (l : ℕ) (r : Run) where
       asked = rw (← e, h, f) (sym (and_assoc (goes_on r) _ _))
 
       pub may_not : may ≡ false → r ≡ link_tried owner_chosen d x l r
-      unfolding link_tried if◌then◌else◌
+      unfolding link_tried when◌then◌else◌
       may_not m = rw (asked, m)
 
       pub fires_now : {y z : Run} → may ≡ true → y ≡ firing_begun d.limit l r → z ≡ actions_run d l y → z ≡ link_tried owner_chosen d x l r
-      unfolding link_tried if◌then◌else◌
+      unfolding link_tried when◌then◌else◌
       fires_now m p q = q ∙ ap (actions_run d l) p ∙ begun_fired d l r ∙ rw (asked, m)
 
 -- one line of the chain, and its end
 module _ (d : Document) (n k : ℕ) (r : Run) {z : Run} (e : lines_taken owner_chosen d (n - k) k r ≡ z) where
   pub chain_more : k < n → goes_on r ≡ true → k < length r.log.lines → lines_taken owner_chosen d (n - (k + 1)) (k + 1) (line_taken owner_chosen d (get_or r.log.lines k (line 0 0 0)) r) ≡ z
-  unfolding lines_taken if◌then◌else◌
+  unfolding lines_taken when◌then◌else◌
   chain_more h g l =
       let s : n - k ≡ suc (n - (k + 1)) = omega arith in
       rw (s, g, lt-ltb k (length r.log.lines) l) at e
 
   ends : k < n → goes_on r && k <? length r.log.lines ≡ false → r ≡ z
-  unfolding lines_taken if◌then◌else◌
+  unfolding lines_taken when◌then◌else◌
   ends h f =
       let s : n - k ≡ suc (n - (k + 1)) = omega arith in
       rw (s, f) at e

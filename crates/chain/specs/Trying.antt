@@ -1,6 +1,6 @@
 -- A link that hears a line: whether it fires, and what a firing does before its actions.
 use Rattle.std.specs.Prelude.{ℕ, Bool, ◌&&◌}
-use Rattle.base.specs.Tests.{if◌then◌else◌, ◌<?◌}
+use Rattle.base.specs.Tests.{when◌then◌else◌, ◌<?◌}
 use Rattle.machine.specs.Tables.{link_at}
 use Rattle.machine.specs.Deciding.{guard_holds}
 use Rattle.machine.specs.Events.{Run}
@@ -16,4 +16,4 @@ may_fire d l r =
 
 -- the firing of link l is logged and counted, or the limit is met
 unfoldable pub firing_begun : ℕ → ℕ → Run → Run
-firing_begun limit l r = if r.firings <? limit then firing_logged l r else limit_met r
+firing_begun limit l r = when r.firings <? limit then firing_logged l r else limit_met r

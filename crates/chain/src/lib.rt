@@ -1,4 +1,6 @@
 // The chain of links: the lines of the log are taken in order, those too that are written meanwhile, and links fire on them.
+#![tactic(auto)]
+
 ghost use Rattle.std.specs.Prelude.{◌≡◌, ◌&&◌, ◌<◌};
 ghost use Rattle.base.specs.Tests.{◌=?◌};
 ghost use Rattle.machine.specs.Answers.{check_number};
@@ -11,9 +13,9 @@ ghost use Rattle.events.specs.Running.{run};
 ghost use Rattle.chain.specs.Trying.{firing_begun};
 
 use base::index_of;
+use call_log::{Written, emit, goes_on, line_at, meet};
 use choices::path_chosen;
 use events::Work;
-use log::{Written, emit, goes_on, line_at, meet};
 use machine::{Document, Line, Refusal, Rules, terms};
 use records::fields::action_at;
 

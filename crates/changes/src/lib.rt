@@ -1,7 +1,9 @@
 // A change of state: its transition, and the count and the clock after it; which anchors follow their media, and whether the
 // media's line goes before theirs.
+#![tactic(auto)]
+
 ghost use Rattle.std.specs.Prelude.{◌≡◌, ◌&&◌};
-ghost use Rattle.base.specs.Tests.{if◌then◌else◌, ◌=?◌};
+ghost use Rattle.base.specs.Tests.{when◌then◌else◌, ◌=?◌};
 ghost use Rattle.machine.specs.Terms.{no_transition};
 ghost use Rattle.machine.specs.Events.{transition, counted, clocked, follows, line_first};
 ghost use Rattle.changes.specs.Moves.{moves};
@@ -52,7 +54,7 @@ pub fn clock_after(change: u8, clock: u16) -> u16
 }
 
 // Which anchors of a media move: those that begin at a clock, those awake that end at it, those awake.
-#[derive(Drop)]
+#[derive(Clone, Copy)]
 pub enum Moving {
     BeginningAt(u16),
     EndingAt(u16),
@@ -81,7 +83,7 @@ pub fn anchor_transition(
     state: u8,
     new: u8,
 ) -> u8
-    ensures { result ≡ (if media =? n && moves moving begin end state
+    ensures { result ≡ (when media =? n && moves moving begin end state
         then transition aborting state new else no_transition) }
 {
     if index_of(media) != n {

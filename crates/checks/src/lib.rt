@@ -1,7 +1,9 @@
 // The checks of one record, as entry `id` of its table: the rules of loading, which the check of a session shares.
 // What a rule looks up in the tables is handed over as numbers, so that a check of a whole table hands over no table for each entry.
+#![tactic(auto)]
+
 ghost use Rattle.std.specs.Prelude.{◌≡◌, true, ◌&&◌, ◌||◌};
-ghost use Rattle.base.specs.Tests.{if◌then◌else◌, ◌=?◌, ◌<?◌};
+ghost use Rattle.base.specs.Tests.{when◌then◌else◌, ◌=?◌, ◌<?◌};
 ghost use Rattle.base.specs.Loops.{some};
 ghost use Rattle.machine.specs.declared.Nodes.{Nodes};
 ghost use Rattle.machine.specs.declared.Document.{Document};
@@ -28,7 +30,7 @@ fn duration_right(node_type: u8, duration: u16) -> bool
 
 // Node 0 is a context with parent 255.
 fn place_right(id: usize, node_type: u8, parent: u8) -> bool
-    ensures { result ≡ (if id =? 0 then node_type =? context && parent =? no_id else true) }
+    ensures { result ≡ (when id =? 0 then node_type =? context && parent =? no_id else true) }
 {
     if id != 0 {
         return true;

@@ -5,7 +5,7 @@ use Prim.Native.Nat.{ℕ, zero, suc, ◌≤◌, ◌<◌}
 use native.Mathlib.Omega.{arith}
 use borrow.Author.Tests.{eqb-false, eq-eqb, ne_eqb}
 use lib.ListN.{replicate}
-use Rattle.base.specs.Tests.{if◌then◌else◌, ◌=?◌, by_test}
+use Rattle.base.specs.Tests.{when◌then◌else◌, ◌=?◌, by_test}
 use Rattle.base.specs.Marks.{zero_at}
 use Rattle.machine.specs.Tables.{parent_of}
 use Rattle.machine.specs.Owners.{each_up, on_path, is_chosen, outside_switches, path_chosen}
@@ -17,14 +17,14 @@ use Rattle.choices.specs.Parents.{Earlier}
 module _ (nodes : Nodes) (test : ℕ → Bool) where
   -- at node 0 the path ends
   pub path_ends : (steps n : ℕ) → n ≤ 0 → each_up nodes test steps n ≡ true
-  unfolding each_up if◌then◌else◌
+  unfolding each_up when◌then◌else◌
   path_ends zero n z = refl
   path_ends (suc steps) n z = rw (eq-eqb n 0 (omega arith))
 
   module _ (last : ℕ) (earlier : Earlier nodes.parents last) where
     -- more steps than the id change nothing
     path_steps : (f g n : ℕ) → n ≤ last → n ≤ f → n ≤ g → each_up nodes test f n ≡ each_up nodes test g n
-    unfolding each_up if◌then◌else◌
+    unfolding each_up when◌then◌else◌
     path_steps zero g n h a b = sym (path_ends g n a)
     path_steps (suc f) zero n h a b = path_ends (suc f) n b
     path_steps (suc f) (suc g) n h a b =
@@ -36,7 +36,7 @@ module _ (nodes : Nodes) (test : ℕ → Bool) where
 
     -- one step up
     pub path_more : (n : ℕ) → 0 < n → n ≤ last → on_path nodes test n ≡ (test n && on_path nodes test (parent_of nodes n))
-    unfolding each_up if◌then◌else◌
+    unfolding each_up when◌then◌else◌
     path_more zero z h = absurd (omega arith)
     path_more (suc n) z h =
         let p = earlier.parent (suc n) (omega arith) h in

@@ -1,4 +1,6 @@
 // The choices of switches: whether those on the path up from a node chose it, and whether the choices of a session are right.
+#![tactic(auto)]
+
 ghost use Rattle.std.specs.Prelude.{◌≡◌, not, ◌&&◌, ◌||◌, ◌<◌, ◌≤◌, get_or};
 ghost use Rattle.base.specs.Tests.{◌=?◌, ◌<?◌};
 ghost use Rattle.machine.specs.Terms.{switch};

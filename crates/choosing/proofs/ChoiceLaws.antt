@@ -8,7 +8,7 @@ use native.Mathlib.Omega.{arith}
 use borrow.Author.Tests.{eqb-true, eqb-false, lt-ltb, le-ltb}
 use lib.IntN.{ℤ}
 use lib.ListN.{length, length-set, get_or, set}
-use Rattle.base.specs.Tests.{if◌then◌else◌, by_test, ◌=?◌, ◌<?◌}
+use Rattle.base.specs.Tests.{when◌then◌else◌, by_test, ◌=?◌, ◌<?◌}
 use Rattle.base.specs.Loops.{first}
 use Rattle.machine.specs.Terms.{no_id}
 use Rattle.machine.specs.Tables.{bind_at}
@@ -27,16 +27,16 @@ use Rattle.choosing.specs.Choosing.{child_found, child_from, Chosen, no_child, F
 
 module _ (binds : Binds) (test : ℕ → ℕ → Bool) (other : ℕ → ℕ) where
   pub chosen_end : (xs : List ℕ) → length xs ≡ 64 → ((n : ℕ) → n < 64 → get_or xs n 0 ≡ other n) → Chosen binds test other binds.count xs
-  unfolding child_from first if◌then◌else◌
+  unfolding child_from first when◌then◌else◌
   chosen_end xs places same =
       let e : binds.count - binds.count ≡ 0 = omega arith in
       record { places = places; child = λ n h. same n h ∙ rw (e, le-ltb binds.count binds.count (omega arith)) }
 
   pub chosen_more : (k : ℕ) (passes : Bool) (xs ys : List ℕ) → 0 < k → k ≤ binds.count → (bind_at binds (k - 1)).switch < 64
       → ((n : ℕ) → test n (k - 1) ≡ ((bind_at binds (k - 1)).switch =? n && passes))
-      → ys ≡ (if passes then set xs (bind_at binds (k - 1)).switch (bind_at binds (k - 1)).child else xs)
+      → ys ≡ (when passes then set xs (bind_at binds (k - 1)).switch (bind_at binds (k - 1)).child else xs)
       → Chosen binds test other k xs → Chosen binds test other (k - 1) ys
-  unfolding child_from first if◌then◌else◌
+  unfolding child_from first when◌then◌else◌
   chosen_more k passes xs ys some h low own is c =
       let switch = (bind_at binds (k - 1)).switch in
       let child = (bind_at binds (k - 1)).child in
@@ -80,7 +80,7 @@ module _ (binds : Binds) (rules : Rules) (values : List ℤ) where
         (λ n. rw (right.0, e) (by_test ((bind_at binds b).switch =? n) (λ q. rw q) (λ q. rw q)), right.1))
 
   pub found_children : (xs : List ℕ) → Chosen binds (bind_holds binds rules values) (default_child binds) 0 xs → FoundChildren binds rules values xs
-  unfolding child_from child_found found_bind default_child if◌then◌else◌
+  unfolding child_from child_found found_bind default_child when◌then◌else◌
   found_children xs c = record {
     found = λ n h.
         let i = first (bind_holds binds rules values n) binds.count 0 in

@@ -3,4 +3,4 @@ pub use mathlib.Core.Path.{◌≡◌, refl}
 pub use Prim.Native.Nat.{◌≤◌, ◌-◌}
 pub use native.Mathlib.Omega.{arith}
 pub use borrow.Author.Rules.{rules}
-unfoldable pub use Rattle.base.specs.Tests.{if◌then◌else◌}
+unfoldable pub use Rattle.base.specs.Tests.{when◌then◌else◌}

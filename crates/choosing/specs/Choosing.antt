@@ -1,6 +1,6 @@
 -- The child that a switch finds.
 use Rattle.std.specs.Prelude.{ℕ, ◌-◌, ◌≤◌, ◌<◌, Bool, false, List, ◌≡◌, ℤ, length, get_or}
-use Rattle.base.specs.Tests.{if◌then◌else◌, ◌<?◌}
+use Rattle.base.specs.Tests.{when◌then◌else◌, ◌<?◌}
 use Rattle.base.specs.Loops.{first}
 use Rattle.machine.specs.Terms.{no_id}
 use Rattle.machine.specs.Tables.{bind_at}
@@ -13,7 +13,7 @@ use Rattle.rules.specs.Memo.{Decided}
 unfoldable pub child_found : Binds → Rules → List ℤ → ℕ → ℕ
 child_found binds rules values n =
     let b = found_bind binds rules values n in
-    if b <? binds.count then (bind_at binds b).child else 0
+    when b <? binds.count then (bind_at binds b).child else 0
 
 pub record FoundChildren (binds : Binds) (rules : Rules) (values : List ℤ) (chosen : List ℕ) : Type 0 where
   pub found : (n : ℕ) → n < 64 → get_or chosen n 0 ≡ child_found binds rules values n
@@ -22,7 +22,7 @@ pub record FoundChildren (binds : Binds) (rules : Rules) (values : List ℤ) (ch
 unfoldable pub child_from : Binds → (ℕ → Bool) → ℕ → ℕ → ℕ
 child_from binds test other b =
     let i = first test (binds.count - b) b in
-    if i <? binds.count then (bind_at binds i).child else other
+    when i <? binds.count then (bind_at binds i).child else other
 
 -- each switch has the child of the first of its binds from b on that passes, else the other that is given for it
 pub record Chosen (binds : Binds) (test : ℕ → ℕ → Bool) (other : ℕ → ℕ) (b : ℕ) (chosen : List ℕ) : Type 0 where

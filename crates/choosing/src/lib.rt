@@ -1,6 +1,8 @@
 // The child that each switch finds.
+#![tactic(auto)]
+
 ghost use Rattle.std.specs.Prelude.{◌≡◌, ◌<◌, length, get_or, set};
-ghost use Rattle.base.specs.Tests.{if◌then◌else◌};
+ghost use Rattle.base.specs.Tests.{when◌then◌else◌};
 ghost use Rattle.machine.specs.Terms.{no_id};
 ghost use Rattle.machine.specs.Records.{is_default};
 ghost use Rattle.machine.specs.Sound.{SoundRules};
@@ -20,7 +22,7 @@ fn choose<'a>(
     b: usize,
 )
     requires { (b < 64) × (get_or switches.now b 0 < 64) }
-    ensures { chosen.new ≡ (if passes
+    ensures { chosen.new ≡ (when passes
         then set chosen.old (get_or switches.now b 0) (get_or children.now b 0)
         else chosen.old) }
 {

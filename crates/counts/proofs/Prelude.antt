@@ -5,5 +5,5 @@ pub use Prim.Native.Nat.{◌≤◌, ◌<◌, ◌-◌}
 pub use native.Mathlib.Omega.{arith}
 pub use borrow.Author.Rules.{rules}
 pub use borrow.Author.Tests.{eq-eqb, ne_eqb, lt-ltb, le-ltb}
-unfoldable pub use Rattle.base.specs.Tests.{if◌then◌else◌}
+unfoldable pub use Rattle.base.specs.Tests.{when◌then◌else◌}
 pub use Rattle.machine.specs.declared.Document.{Document}

@@ -1,7 +1,6 @@
 -- The number of the condition that a check found to fail, 0 if all hold.
 use Rattle.std.specs.Prelude.{ℕ}
 use Rattle.machine.specs.Answers.{condition_number}
-use Rattle.counts.specs.declared.Verdict
 use Rattle.counts.specs.declared.Verdict.{Verdict}
 
 abbrev pub verdict_number : Verdict → ℕ

@@ -1,4 +1,6 @@
 // The check for report authors: whether a document shows the counts of a media in a property, and the count of an anchor.
+#![tactic(auto)]
+
 mod anchors;
 mod links;
 
@@ -10,7 +12,7 @@ ghost use Rattle.counts.specs.Verdicts.{verdict_number};
 
 use machine::{Condition, Document};
 
-#[derive(Drop)]
+#[derive(Clone, Copy)]
 pub enum Verdict {
     Passed,
     Failed(Condition),

@@ -1,6 +1,6 @@
 // The conditions on the links that set a property.
 ghost use Rattle.std.specs.Prelude.{◌≡◌, ◌&&◌, ◌+◌, ◌<◌, ◌≤◌, get_or};
-ghost use Rattle.base.specs.Tests.{if◌then◌else◌, ◌=?◌, ◌<?◌};
+ghost use Rattle.base.specs.Tests.{when◌then◌else◌, ◌=?◌, ◌<?◌};
 ghost use Rattle.base.specs.Marks.{Numbered};
 ghost use Rattle.machine.specs.Terms.{to_set, starts, of_anchor};
 ghost use Rattle.machine.specs.Tables.{action_count};
@@ -12,7 +12,7 @@ use choices::path_chosen;
 use machine::{Document, terms};
 
 // What one sweep over the links finds: for each anchor how many links on its start set the property, and whether the conditions on links hold.
-#[derive(Drop)]
+#[derive(Clone, Copy)]
 pub struct Findings {
     pub linked: [u8; 256],
     pub each_sets_once: bool,
@@ -30,7 +30,7 @@ fn sets(action: u8, target: u8, property: u8) -> bool
 
 fn one_more_if(number: u8, passes: bool) -> u8
     requires { number < 255 }
-    ensures { (result ≡ number + (if passes then 1 else 0)) × (result ≤ number + 1) }
+    ensures { (result ≡ number + (when passes then 1 else 0)) × (result ≤ number + 1) }
 {
     if passes {
         return number + 1;

@@ -3,7 +3,7 @@ use mathlib.Core.Path.{◌≡◌}
 use Prim.Native.Nat.{ℕ, ◌<◌, ◌≤◌}
 use native.Mathlib.Omega.{arith}
 use borrow.Author.Tests.{leb-false, leb-true}
-use Rattle.base.specs.Tests.{if◌then◌else◌, ◌≤?◌, both_pass, no_fault, not_false}
+use Rattle.base.specs.Tests.{when◌then◌else◌, ◌≤?◌, both_pass, no_fault, not_false}
 use Rattle.machine.specs.Tables.{latest, action_count}
 use Rattle.machine.specs.Records.{link_fault, action_fault, record_fault, entered}
 use Rattle.machine.specs.declared.Document.{Document}
@@ -13,7 +13,7 @@ use Rattle.machine.specs.declared.Record.{Record}
 use Rattle.machine.specs.declared.Record.TheVariants.{Head, Node, Anchor, Property, Rule, Bind, Port, Link, Action}
 
 -- a table that is not full
-pub room : (size id other : ℕ) → (if size ≤? id then 4 else other) ≡ 0 → id < size
+pub room : (size id other : ℕ) → (when size ≤? id then 4 else other) ≡ 0 → id < size
 room size id other e = leb-false size id (no_fault _ 4 other (omega arith) e).0
 
 -- an action has a link, which has room

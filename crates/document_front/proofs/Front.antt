@@ -9,7 +9,7 @@ use native.Mathlib.Omega.{arith}
 use lib.ListN.{length, take, drop, take-append-drop, length-append, length-drop, length-set, get_or-eq_default}
 use lib.Seq.{get_or-set_same, take_all, length-take-le, take-append-le, drop-append-le}
 use borrow.Author.Tests.{eqb-true, eqb-false, leb-true, leb-false, ltb-false, le-ltb}
-use Rattle.base.specs.Tests.{if◌then◌else◌, ◌=?◌, ◌≤?◌, ◌<?◌, by_test, both_pass, not_true}
+use Rattle.base.specs.Tests.{when◌then◌else◌, ◌=?◌, ◌≤?◌, ◌<?◌, by_test, both_pass, not_true}
 use Rattle.base.specs.Loops.{every, every_each}
 use Rattle.machine.specs.Terms.{simple_rule}
 use Rattle.machine.specs.Tables.{Table, node_table, anchor_table, rule_table, bind_table, port_table, link_table, latest, action_count, empty_document, empty_session}
@@ -18,7 +18,6 @@ use Rattle.machine.specs.Load.{OrFault, good, faulty, and_then, cut_at, cut, che
 use Rattle.machine.specs.Broken.{broken}
 use Rattle.machine.specs.declared.Links.{Links}
 use Rattle.machine.specs.declared.Loaded.{Loaded}
-use Rattle.machine.specs.declared.LoadAnswer
 use Rattle.machine.specs.declared.LoadAnswer.{LoadAnswer}
 use Rattle.machine.specs.declared.Document.{Document}
 use Rattle.machine.specs.declared.Session.{Session}
@@ -55,7 +54,7 @@ length_of (Action r) = record_length 9
 
 -- a record of a kind and a body has at most the bytes of its case
 record_fits : (body : List ℕ) (kind : ℕ) → kind ≤ greatest_kind → record_length kind ≤ length_of (record_of kind body)
-unfolding length_of record_of if◌then◌else◌ every
+unfolding length_of record_of when◌then◌else◌ every
 record_fits body kind h = leb-true _ _ (every_each (λ k. record_length k ≤? length_of (record_of k body)) (greatest_kind + 1) refl kind (omega arith))
 
 -- ---- the bytes that a document has room for
@@ -94,7 +93,7 @@ one_more size places count h = fewer size _ _ (omega arith)
 
 -- no second head
 head_fewer : (d : Document) (limit : ℕ) → place_fault d (Head limit) ≡ 0 → 1 - limit < 1 - d.limit
-unfolding place_fault if◌then◌else◌
+unfolding place_fault when◌then◌else◌
 head_fewer d limit e =
     by_test (d.limit =? 0 && not (limit =? 0))
     (λ t. let p = both_pass (d.limit =? 0) (not (limit =? 0)) t in omega (arith, eqb-true d.limit 0 p.0, eqb-false limit 0 (not_true _ p.1)))

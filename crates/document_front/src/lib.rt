@@ -1,4 +1,6 @@
 // Load of a document of which the first bytes are at hand.
+#![tactic(auto)]
+
 ghost use Rattle.std.specs.Prelude.{false, ◌≡◌, List, ℕ, ◌≤◌, length, take};
 ghost use Rattle.machine.specs.Broken.{broken};
 ghost use Rattle.machine.specs.Load.{load};

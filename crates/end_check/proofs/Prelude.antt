@@ -6,7 +6,7 @@ pub use Prim.Native.Nat.{◌≤◌, ◌+◌, ◌*◌, ◌-◌}
 pub use native.Mathlib.Omega.{arith}
 pub use lib.ListN.{length}
 pub use borrow.Author.Rules.{rules}
-pub use borrow.Author.Tests.{not_true, not_false}
+pub use borrow.Author.Tests.{not-true, not-false}
 unfoldable pub use Rattle.base.specs.Loops.{every}
 pub use Rattle.base.specs.Tests.{◌=?◌, equal_ints}
 pub use Rattle.base.specs.Loops.{every_none, every_more, every_done}

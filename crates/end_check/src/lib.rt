@@ -1,4 +1,6 @@
 // Nothing stands past the end of a table.
+#![tactic(auto)]
+
 ghost use Rattle.std.specs.Prelude.{◌≡◌, true, ◌&&◌, ◌<◌, ◌≤◌, length, get_or};
 ghost use Rattle.base.specs.Loops.{every};
 ghost use Rattle.machine.specs.Tables.{numbers, integers, node_table, anchor_table, rule_table, bind_table, port_table, link_table, action_tables, node_event_table, anchor_event_table, property_event_table};

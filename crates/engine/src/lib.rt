@@ -1,5 +1,7 @@
 // The calls on a session that is known not to be broken. A call returns such a session, so that a caller who makes many calls
 // carries the fact from one to the next and nothing is checked twice. `player` has the operations for any session.
+#![tactic(auto)]
+
 ghost use Rattle.std.specs.Prelude.{◌≡◌, false, length};
 ghost use Rattle.machine.specs.Answers.{number_of, check_number};
 ghost use Rattle.machine.specs.Broken.{broken};
@@ -18,7 +20,7 @@ pub fn refuse(s: Session, refusal: Refusal, log: &mut [u8]) -> Called
     ensures { call_result result log.new
         ≡ call_refused (number_of refusal) s (length log.old) }
 {
-    log::clear(log, 0);
+    call_log::clear(log, 0);
     Called {
         answer: CallAnswer::Refused(refusal),
         session: s,
@@ -33,7 +35,7 @@ fn end(s: Session, w: Work, log: &mut [u8]) -> Called
     let stop = written.stop;
     match stop {
         Check::Passed => {
-            log::clear(log, written.lines);
+            call_log::clear(log, written.lines);
             let document = s.document;
             Called {
                 answer: CallAnswer::Accepted(w.firings),

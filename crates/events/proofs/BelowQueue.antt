@@ -5,7 +5,7 @@ use mathlib.Core.List.{List}
 use Prim.Native.Nat.{ℕ, ◌+◌, ◌<◌}
 use native.Mathlib.Omega.{arith}
 use lib.ListN.{length-set, set, replicate}
-use Rattle.base.specs.Tests.{if◌then◌else◌}
+use Rattle.base.specs.Tests.{when◌then◌else◌}
 use Rattle.base.specs.Loops.{ascending, ascending_more}
 use Rattle.machine.specs.Tables.{is_media}
 use Rattle.machine.specs.Events.{is_below, moved_below}
@@ -23,7 +23,7 @@ module _ (nodes : Nodes) (target : ℕ) where
   module _ (n : ℕ) where
     pub below_more : (media : List ℕ) (count : ℕ) → n < 64 → is_media nodes n && is_below nodes target n ≡ true
         → MediaBelow nodes target n (queue_of media count) → MediaBelow nodes target (n + 1) (queue_of (set media count n) (count + 1))
-    unfolding moved_below if◌then◌else◌
+    unfolding moved_below when◌then◌else◌
     below_more media count h t m = record {
       places = record { few = omega (arith, m.few); ids = ids_more media count n (omega (arith, m.few, m.array)) h m.places.ids };
       array = length-set media count n ∙ m.array;
@@ -34,7 +34,7 @@ module _ (nodes : Nodes) (target : ℕ) where
     }
 
     pub below_same : (q : Queue) → is_media nodes n && is_below nodes target n ≡ false → MediaBelow nodes target n q → MediaBelow nodes target (n + 1) q
-    unfolding moved_below if◌then◌else◌
+    unfolding moved_below when◌then◌else◌
     below_same q t m = record {
       places = m.places;
       array = m.array;

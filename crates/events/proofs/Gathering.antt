@@ -8,7 +8,7 @@ use native.Mathlib.Omega.{arith}
 use borrow.Author.Tests.{eq-eqb, ne_eqb, eqb-true, eqb-false}
 use lib.ListN.{length, length-set, get_or, set, replicate, get_or-replicate}
 use lib.Seq.{get_or-set_same, get_or-set_other}
-use Rattle.base.specs.Tests.{if◌then◌else◌, by_test, ◌=?◌, not_false}
+use Rattle.base.specs.Tests.{when◌then◌else◌, by_test, ◌=?◌, not_false}
 use Rattle.base.specs.Loops.{some}
 use Rattle.machine.specs.Terms.{sleeping, occurring, paused}
 use Rattle.machine.specs.Tables.{type_of, is_media, parent_of}
@@ -54,14 +54,14 @@ from_same test other (suc k) i same = rw (same i (omega arith), from_same test o
 -- ---- the state of a composite, from whether a child is occurring and whether one is paused; and with one child more
 
 state_of : Bool → Bool → ℕ
-state_of occurs pauses = if occurs then occurring else if pauses then paused else sleeping
+state_of occurs pauses = when occurs then occurring else when pauses then paused else sleeping
 
 child_more : (occurs pauses : Bool) (child : ℕ) → with_child (state_of occurs pauses) child ≡ state_of (child =? occurring || occurs) (child =? paused || pauses)
-unfolding with_child state_of if◌then◌else◌
+unfolding with_child state_of when◌then◌else◌
 child_more occurs pauses child =
     by_test (child =? occurring) (λ e. rw e) (λ e. rw e (rest occurs pauses))
   where
-    rest : (occurs pauses : Bool) → (if awake (state_of occurs pauses) then state_of occurs pauses else if child =? paused then paused else sleeping) ≡ state_of occurs (child =? paused || pauses)
+    rest : (occurs pauses : Bool) → (when awake (state_of occurs pauses) then state_of occurs pauses else when child =? paused then paused else sleeping) ≡ state_of occurs (child =? paused || pauses)
     rest true pauses = refl
     rest false true = by_test (child =? paused) (λ e. rw e) (λ e. rw e)
     rest false false = by_test (child =? paused) (λ e. rw e) (λ e. rw e)
@@ -76,7 +76,7 @@ pub Gathered : Nodes → List ℕ → ℕ → List ℕ → Type 0
 Gathered nodes states k gathered = (length gathered ≡ 256) × ((c : ℕ) → c < 256 → get_or gathered c 0 ≡ children_from nodes states k c)
 
 pub gathered_none : (nodes : Nodes) (states : List ℕ) → Gathered nodes states nodes.count (replicate 256 0)
-unfolding Gathered children_from some_from state_of if◌then◌else◌
+unfolding Gathered children_from some_from state_of when◌then◌else◌
 gathered_none nodes states =
     let e : nodes.count - nodes.count ≡ 0 = omega arith in
     (refl, λ c h. rw e (get_or-replicate 256 c 0 0 h))
@@ -130,7 +130,7 @@ node_to_later aborting n new r j h =
     (λ _. get_or-set_other r.state.nodes.states n j new 0 (λ u. omega arith))
 
 node_to_same : (aborting : Bool) (n new : ℕ) (r : Run) → node_state r.state n =? new ≡ true → node_to aborting n new r ≡ r
-unfolding node_to node_changed transition if◌then◌else◌
+unfolding node_to node_changed transition when◌then◌else◌
 node_to_same aborting n new r e = rw e
 
 module _ (nodes : Nodes) (action target c : ℕ) (r : Run) where
@@ -142,10 +142,10 @@ module _ (nodes : Nodes) (action target c : ℕ) (r : Run) where
   module _ (children : ℕ) (e : children ≡ children_state nodes r.state.nodes.states c) where
     pub settled_moves : {z : Run} {aborting : Bool} → resettled (type_of nodes c) (node_state r.state c) children ≡ true → aborting ≡ aborts_at nodes action target c
         → z ≡ node_to aborting c children r → z ≡ settled_one nodes action target c r
-    unfolding settled_one resettled if◌then◌else◌
+    unfolding settled_one resettled when◌then◌else◌
     settled_moves t a p = by_test (is_media nodes c) (λ m. absurd (false≢true (rw m at t))) (λ m. rw (m, ← e, ← a) p)
 
     pub settled_stays : resettled (type_of nodes c) (node_state r.state c) children ≡ false → r ≡ settled_one nodes action target c r
-    unfolding settled_one resettled if◌then◌else◌
+    unfolding settled_one resettled when◌then◌else◌
     settled_stays t = by_test (is_media nodes c) (λ m. rw m)
         (λ m. rw (m, ← e) (sym (node_to_same _ c children r (not_false _ (rw m at t)))))

@@ -1,6 +1,6 @@
 -- What the contracts of inner functions name beside the definitions of `machine`.
 use Rattle.std.specs.Prelude.{Bool, not, ◌&&◌, ℕ}
-use Rattle.base.specs.Tests.{if◌then◌else◌, ◌=?◌}
+use Rattle.base.specs.Tests.{when◌then◌else◌, ◌=?◌}
 use Rattle.machine.specs.Terms.{media, sleeping, occurring, paused}
 use Rattle.machine.specs.Events.{awake}
 
@@ -11,7 +11,7 @@ resettled type state children = not (type =? media) && not (state =? children)
 -- the state that some children give a composite, with one child more
 unfoldable pub with_child : ℕ → ℕ → ℕ
 with_child state child =
-    if child =? occurring then occurring
-    else if awake state then state
-    else if child =? paused then paused
+    when child =? occurring then occurring
+    else when awake state then state
+    else when child =? paused then paused
     else sleeping

@@ -2,7 +2,7 @@
 use Rattle.std.specs.Prelude.{ℕ, List}
 use Rattle.machine.specs.Events.{Run}
 use Rattle.machine.specs.OfColumns.{node_events_of, anchor_events_of, property_events_of}
-use Rattle.log.specs.LogSlice.{log_of}
+use Rattle.call_log.specs.LogSlice.{log_of}
 use Rattle.transitions.specs.Lent.{Rest, run_with}
 use Rattle.events.specs.declared.Work.{Work}
 

@@ -1,6 +1,8 @@
 // What an action does to events: to media and their anchors, to properties, and by settling to composites. Each function changes
 // the working record of a call and writes its lines to the log slice; it states the whole of what it does by a definition of
 // `machine`.
+#![tactic(auto)]
+
 pub mod acting;
 mod media;
 mod properties;
@@ -10,11 +12,11 @@ ghost use Rattle.std.specs.Prelude.{◌≡◌, List, ℕ, length};
 ghost use Rattle.machine.specs.Operations.{fresh_run};
 ghost use Rattle.events.specs.Running.{run};
 
-use log::Written;
+use call_log::Written;
 use machine::{AnchorEvents, Check, NodeEvents, PropertyEvents, State};
 
 // What of a session changes, while a call runs; with what is written of its log, and the firings.
-#[derive(Drop)]
+#[derive(Clone, Copy)]
 pub struct Work {
     pub node_states: [u8; 64],
     pub node_clocks: [u16; 64],

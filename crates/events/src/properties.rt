@@ -4,8 +4,8 @@ ghost use Rattle.machine.specs.Events.{set_property};
 ghost use Rattle.events.specs.Running.{run};
 
 use super::Work;
+use call_log::emit;
 use changes::count_after;
-use log::emit;
 use machine::terms;
 
 // Property p takes the value.

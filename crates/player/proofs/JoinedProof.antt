@@ -8,7 +8,7 @@ use lib.Dec.{lit<}
 use lib.IntN.{ℤ, pos}
 use lib.ListN.{length}
 use borrow.Author.Tests.{eqb-true, ltb-true}
-use Rattle.base.specs.Tests.{if◌then◌else◌, ◌<?◌, both_pass, not_false}
+use Rattle.base.specs.Tests.{when◌then◌else◌, ◌<?◌, both_pass, not_false}
 use Rattle.machine.specs.Terms.{of_property}
 use Rattle.machine.specs.Tables.{anchor_at}
 use Rattle.machine.specs.Answers.{Answer, refused, read_answer, counts_answer, count_answer}
@@ -82,7 +82,7 @@ refused_none : {r : Answer} (number : ℕ) → refused number ≡ r → 0 < leng
 refused_none number e h = omega (arith, ap (λ (r : Answer). length r.values) e)
 
 state_value : (s : State) (p : ℕ) → value_in (read_state s of_property p) ≡ value_of s p
-unfolding read_state value_in if◌then◌else◌
+unfolding read_state value_in when◌then◌else◌
 state_value s p = refl
 
 read_value : (s : Session) (p : ℕ) (reading : Reading) → read s of_property p ≡ read_answer (Found reading) → value_of s.state p ≡ reading.value
@@ -96,7 +96,7 @@ read_value s p reading =
     Reads r = r ≡ read_answer (Found reading) → value_of s.state p ≡ reading.value
 
 count_value : (count : ℤ) → value_in (with_count 0 count) ≡ count
-unfolding with_count value_in if◌then◌else◌
+unfolding with_count value_in when◌then◌else◌
 count_value count = refl
 
 given_count : (s : Session) (a p : ℕ) (count : ℤ) → failing s.document (anchor_at s.document.anchors a).media p ≡ 0 → give_count s a p ≡ count_answer (Count count)

@@ -1,5 +1,7 @@
 // The report player: the crate to link. Any session, any arguments and a log slice of any length may be handed in.
 // A session that is not broken goes on to `engine` and `questions`.
+#![tactic(auto)]
+
 ghost use Rattle.std.specs.Prelude.{◌≡◌, length};
 ghost use Rattle.machine.specs.Answers.{read_answer, counts_answer, count_answer};
 ghost use Rattle.machine.specs.Load.{load};

@@ -5,12 +5,12 @@ use mathlib.Core.List.{[], ◌∷◌, ◌++◌}
 use mathlib.Core.Path.{◌≡◌}
 use lib.ListN.{length, length-append}
 use borrow.Author.Tests.{lt-ltb, le-ltb, ltb-true, ltb-false}
-use Rattle.base.specs.Tests.{if◌then◌else◌, by_test, ◌<?◌}
+use Rattle.base.specs.Tests.{when◌then◌else◌, by_test, ◌<?◌}
 use Rattle.machine.specs.Text.{digits, decimal}
 
 -- a larger bound on the digits gives no more of them
 digits_enough : (f g n : ℕ) → n < f → n < g → digits f n ≡ digits g n
-unfolding digits if◌then◌else◌
+unfolding digits when◌then◌else◌
 digits_enough zero g n h l = absurd (omega arith)
 digits_enough (suc f) zero n h l = absurd (omega arith)
 digits_enough (suc f) (suc g) n h l =
@@ -20,11 +20,11 @@ digits_enough (suc f) (suc g) n h l =
     rw (e, digits_enough f g (n / 10) (omega arith) (omega arith)))
 
 pub decimal_last : (n : ℕ) → n < 10 → decimal n ≡ (48 + n) ∷ []
-unfolding digits if◌then◌else◌
+unfolding digits when◌then◌else◌
 decimal_last n h = rw (lt-ltb n 10 h)
 
 pub decimal_more : (n : ℕ) → 10 ≤ n → decimal n ≡ decimal (n / 10) ++ ((48 + n % 10) ∷ [])
-unfolding digits if◌then◌else◌
+unfolding digits when◌then◌else◌
 decimal_more n h = rw (le-ltb n 10 h, digits_enough n (suc (n / 10)) (n / 10) (omega arith) (omega arith))
 
 -- how many there are: one more than of a tenth, and at most

@@ -8,7 +8,7 @@ use mathlib.Core.Path.{◌≡◌, refl, sym, ◌∙◌}
 use lib.ListN.{length, length-drop, get_or, drop}
 use lib.Seq.{drop-cons}
 use borrow.Author.Tests.{le-ltb, ltb-true, ltb-false, eqb-true, eqb-false}
-use Rattle.base.specs.Tests.{if◌then◌else◌, by_test, ◌=?◌, ◌<?◌}
+use Rattle.base.specs.Tests.{when◌then◌else◌, by_test, ◌=?◌, ◌<?◌}
 use Rattle.machine.specs.Log.{lines_of}
 use Rattle.printing.specs.Lines.{is_line}
 
@@ -46,11 +46,11 @@ drop_four b p h =
 module _ (b : List ℕ) (p : ℕ) where
   -- a line stands there: there is room for it, and its class is not 0
   pub line_fits : is_line b p ≡ true → 4 ≤ length b - p
-  unfolding is_line if◌then◌else◌
+  unfolding is_line when◌then◌else◌
   line_fits e = by_test (length b - p <? 4) (λ q. absurd (false≢true (rw q at e))) (λ q. ltb-false (length b - p) 4 q)
 
   pub line_there : is_line b p ≡ true → lines_of (drop p b) ≡ record { class = get_or b p 0; id = get_or b (p + 1) 0; transition = get_or b (p + 2) 0; zero = get_or b (p + 3) 0 } ∷ lines_of (drop (p + 4) b)
-  unfolding is_line if◌then◌else◌
+  unfolding is_line when◌then◌else◌
   line_there e =
       let l : 4 ≤ length b - p = line_fits e in
       let n : not (get_or b p 0 =? 0) ≡ true = rw (le-ltb (length b - p) 4 l) at e in
@@ -58,7 +58,7 @@ module _ (b : List ℕ) (p : ℕ) where
       (λ q. rw (drop_four b p (omega arith)) (lines_more _ _ _ _ _ (eqb-false _ _ q)))
 
   pub line_none : is_line b p ≡ false → lines_of (drop p b) ≡ []
-  unfolding is_line if◌then◌else◌
+  unfolding is_line when◌then◌else◌
   line_none e =
       by_test (length b - p <? 4) (λ q. lines_short (drop p b) (simp length-drop (omega (arith, ltb-true (length b - p) 4 q))))
       (λ q.

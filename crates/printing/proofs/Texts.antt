@@ -6,7 +6,7 @@ use mathlib.Core.Path.{◌≡◌}
 use lib.ListN.{length, length-append, get_or, drop}
 use mathlib.Core.Bool.{true}
 use lib.IntN.{pos}
-use Rattle.base.specs.Tests.{if◌then◌else◌}
+use Rattle.base.specs.Tests.{when◌then◌else◌}
 use Rattle.machine.specs.declared.Refusal.{Refusal}
 use Rattle.machine.specs.Answers.{accepted, refused, number_of, numbered}
 use Rattle.machine.specs.Log.{lines_of}
@@ -79,9 +79,9 @@ refused_most number h = omega (arith, refused_length number, byte_length number 
 -- the line of a call: its number, its answer, and the line's end
 module _ (number : ℕ) (s : Session) (log : List ℕ) where
   pub accepted_call : (firings : ℕ) → decimal number ++ accepted_text firings log ++ text "\n" ≡ printed_call number (record { answer = accepted (pos firings ∷ []); session = s; log = log })
-  unfolding printed_call firings_of accepted_text if◌then◌else◌
+  unfolding printed_call firings_of accepted_text when◌then◌else◌
   accepted_call firings = simp append_assoc
 
   pub refused_call : (refusal : Refusal) → decimal number ++ refused_text (number_of refusal) ++ text "\n" ≡ printed_call number (record { answer = refused (number_of refusal); session = s; log = log })
-  unfolding printed_call refused_text if◌then◌else◌
+  unfolding printed_call refused_text when◌then◌else◌
   refused_call refusal = rw (numbered refusal)

@@ -1,6 +1,6 @@
 -- The parts of a printed line.
 use Rattle.std.specs.Prelude.{ℕ, ◌+◌, ◌*◌, ◌-◌, Bool, false, not, List, ◌++◌, length, get_or}
-use Rattle.base.specs.Tests.{if◌then◌else◌, ◌=?◌, ◌<?◌}
+use Rattle.base.specs.Tests.{when◌then◌else◌, ◌=?◌, ◌<?◌}
 use Rattle.machine.specs.Log.{lines_of}
 use Rattle.machine.specs.PrintedRun.{printed_lines}
 use Rattle.machine.specs.Text.{text, decimal}
@@ -11,7 +11,7 @@ line_text class id transition = text " " ++ decimal class ++ (text "." ++ decima
 
 -- a line of the log stands at a place of its slice
 unfoldable pub is_line : List ℕ → ℕ → Bool
-is_line log place = if length log - place <? 4 then false else not (get_or log place 0 =? 0)
+is_line log place = when length log - place <? 4 then false else not (get_or log place 0 =? 0)
 
 -- what is printed of an answer, after the number of the call
 unfoldable pub accepted_text : ℕ → List ℕ → List ℕ

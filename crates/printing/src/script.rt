@@ -12,7 +12,7 @@ const LENGTHS: [u8; 4] = [0, 6, 1, 0];
 
 // What stands at the front of some bytes of a script. Cut: there is no whole record yet, and more bytes may make one.
 // Wrong: no record begins there, whatever follows.
-#[derive(Drop)]
+#[derive(Clone, Copy)]
 pub enum ScriptRecord {
     Call(Call),
     Cut,

@@ -4,7 +4,7 @@ use mathlib.Core.Bool.{true, ◌&&◌}
 use mathlib.Core.Path.{◌≡◌}
 use native.Mathlib.Omega.{arith}
 use borrow.Author.Tests.{leb-true, ltb-true}
-use Rattle.base.specs.Tests.{if◌then◌else◌, ◌≤?◌, both_pass}
+use Rattle.base.specs.Tests.{when◌then◌else◌, ◌≤?◌, both_pass}
 use Rattle.machine.specs.Terms.{of_node, of_property}
 use Rattle.machine.specs.Records.{subject_given}
 use Rattle.machine.specs.Sound.{Sound}
@@ -12,7 +12,7 @@ use Rattle.machine.specs.declared.Document.{Document}
 use Rattle.questions.specs.Places.{Within}
 
 pub within : (d : Document) (class id : ℕ) → Sound d → of_node ≤? class && class ≤? of_property ≡ true → subject_given d class id ≡ true → Within class id
-unfolding subject_given if◌then◌else◌
+unfolding subject_given when◌then◌else◌
 within d class id sound r g = record {
   node = λ e. omega (arith, ltb-true id d.nodes.count (rw e at g), sound.nodes.few);
   anchor = λ e. omega (arith, ltb-true id d.anchors.count (rw e at g), sound.anchors);

@@ -1,4 +1,6 @@
 // What may be asked of a session that is known not to be broken. `player` has the questions for any session.
+#![tactic(auto)]
+
 ghost use Rattle.std.specs.Prelude.{◌≡◌, false, ◌&&◌, ◌<◌, pos, get_or};
 ghost use Rattle.base.specs.Tests.{◌<?◌, ◌≤?◌};
 ghost use Rattle.machine.specs.Answers.{read_answer, counts_answer, count_answer};

@@ -10,7 +10,7 @@ use machine::{
     RuleRecord, terms,
 };
 
-#[derive(Drop)]
+#[derive(Clone, Copy)]
 pub enum Reading {
     Read(Record),
     Refused(Refusal),

@@ -11,7 +11,7 @@ use lib.IntN.{ℤ}
 use lib.ListN.{get_or, set, replicate, length, length-set}
 use lib.Seq.{get_or-set_same, get_or-set_other}
 use borrow.Author.Tests.{eqb-true, eqb-false}
-use Rattle.base.specs.Tests.{if◌then◌else◌, ◌=?◌, by_test}
+use Rattle.base.specs.Tests.{when◌then◌else◌, ◌=?◌, by_test}
 use Rattle.base.specs.Marks.{zero_at}
 use Rattle.machine.specs.declared.Rules.{Rules}
 use Rattle.machine.specs.Terms.{simple_rule}
@@ -27,12 +27,12 @@ stored P l i x h p others j =
     (λ e. rw (get_or-set_other l i j x 0 (eqb-false j i e)) (others j (eqb-false j i e)))
 
 mark_read : (b : Bool) → eqb (mark_of b) 2 ≡ b
-unfolding mark_of if◌then◌else◌
+unfolding mark_of when◌then◌else◌
 mark_read true = refl
 mark_read false = refl
 
 mark_set : (b : Bool) {x : ℕ} → x ≡ mark_of b → x ≡ 0 → ⊥
-unfolding mark_of if◌then◌else◌
+unfolding mark_of when◌then◌else◌
 mark_set true e z = omega arith
 mark_set false e z = omega arith
 

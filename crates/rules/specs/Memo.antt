@@ -1,6 +1,6 @@
 -- What is known while rules are decided: a mark for each rule, 0 for one that is not decided yet.
 use Rattle.std.specs.Prelude.{ℕ, ◌<◌, ◌≤◌, Bool, List, ◌≡◌, ℤ, get_or, length}
-use Rattle.base.specs.Tests.{if◌then◌else◌}
+use Rattle.base.specs.Tests.{when◌then◌else◌}
 use Rattle.machine.specs.declared.Rules.{Rules}
 use Rattle.machine.specs.Terms.{simple_rule}
 use Rattle.machine.specs.Tables.{rule_at}
@@ -8,7 +8,7 @@ use Rattle.machine.specs.Deciding.{combined, rule_holds}
 
 -- 1 does not hold, 2 holds
 unfoldable pub mark_of : Bool → ℕ
-mark_of holds = if holds then 2 else 1
+mark_of holds = when holds then 2 else 1
 
 -- every rule that has a mark has that of its answer
 abbrev pub Marked : (ℕ → Bool) → List ℕ → Type 0

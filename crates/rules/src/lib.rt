@@ -1,4 +1,6 @@
 // Whether rules hold. A composite rule is decided by deciding its two earlier rules, each composite rule once.
+#![tactic(auto)]
+
 ghost use Rattle.std.specs.Prelude.{◌≡◌, ◌<◌, pos, get_or, length};
 ghost use Rattle.machine.specs.Terms.{no_id};
 ghost use Rattle.machine.specs.Deciding.{compared, combined, rule_holds, guard_holds};
@@ -142,6 +144,7 @@ pub fn rule_holds(rules: Rules, values: [i32; 32], id: usize) -> bool
 }
 
 // Whether the guard holds, if there is one.
+#[tactic(auto, using(crate::proofs::ByKind::no_guard, crate::proofs::ByKind::some_guard))]
 pub fn guard_holds(rules: Rules, values: [i32; 32], guard: u8) -> bool
     requires { ((guard ≡ no_id → ⊥) → guard < rules.count) × SoundRules 32 rules }
     ensures { result ≡ guard_holds rules values guard }

@@ -3,21 +3,20 @@ use Prim.Native.Nat.{ℕ, zero, suc, ◌+◌, ◌-◌, ◌<◌, ◌≤◌}
 use native.Mathlib.Nat.{add_comm}
 use native.Mathlib.Numerals.{add-one}
 use native.Mathlib.Omega.{arith}
-use mathlib.Core.Bool.{true, false, false≢true}
+use mathlib.Core.Bool.{true, false≢true}
 use mathlib.Core.List.{List, [], ◌∷◌, ◌++◌, append_assoc}
 use mathlib.Core.Path.{◌≡◌, refl, sym, ap, ◌∙◌}
 use lib.ListN.{length, length-append, length-drop, take, drop, get_or, set, take-append-drop}
 use lib.Seq.{length-take-le, take_all, take-suc, take-suc-set, take-append-le, take-append-add, drop-append-le, drop-drop, drop-set-lt, get_or-drop, take_at, slice, length-slice}
 use borrow.Rule.Slice.PartMut.{post_of, put_mid}
 use borrow.Author.Tests.{leb-true, le-leb}
-use Rattle.base.specs.Tests.{if◌then◌else◌, by_test, both_pass, ◌≤?◌}
+use Rattle.base.specs.Tests.{when◌then◌else◌, by_test, both_pass, ◌≤?◌}
 use Rattle.machine.specs.Operations.{CallResult, call}
 use Rattle.machine.specs.PrintedRun.{printed_call, script_length, is_script_kind, is_call, call_of, printed_script}
 use Rattle.machine.specs.Text.{text}
 use Rattle.machine.specs.declared.Call.{Call}
 use Rattle.machine.specs.declared.Call.TheVariants.{Command, Key, Tick}
 use Rattle.machine.specs.declared.Session.{Session}
-use Rattle.printing.specs.declared.script.ScriptRecord
 use Rattle.printing.specs.declared.script.ScriptRecord.{ScriptRecord}
 use Rattle.printing.specs.Script.{record_after, script_record}
 use Rattle.printing.specs.Writing.{Printed}
@@ -39,7 +38,7 @@ enough (suc a) (suc b) n (kind ∷ rest) s h k =
 -- ---- the record at the front
 
 size_is : (kind : ℕ) (body : List ℕ) → is_script_kind kind ≡ true → call_size (call_of kind body) ≡ suc (script_length kind)
-unfolding call_of if◌then◌else◌
+unfolding call_of when◌then◌else◌
 size_is zero body k = absurd (false≢true k)
 size_is (suc zero) body k = refl
 size_is (suc (suc zero)) body k = refl
@@ -56,7 +55,7 @@ record First (b : List ℕ) (c : Call) : Type 0 where
   prints : (n : ℕ) (s : Session) → printed_all n b s ≡ printed_call n (call s c 65_536) ++ printed_all (n + 1) (drop (call_size c) b) (call s c 65_536).session
 
 call_first : (b : List ℕ) (c : Call) → script_record b ≡ ScriptRecord.Call c → First b c
-unfolding script_record record_after is_call printed_all printed_script if◌then◌else◌
+unfolding script_record record_after is_call printed_all printed_script when◌then◌else◌
 call_first [] c e = apart (cc e)
 call_first (kind ∷ rest) c e =
     by_test (is_call kind rest)
@@ -89,7 +88,7 @@ call_fits script used c e =
 
 -- more bytes leave it
 call_more : (b rest : List ℕ) (c : Call) → script_record b ≡ ScriptRecord.Call c → script_record (b ++ rest) ≡ ScriptRecord.Call c
-unfolding script_record record_after is_call if◌then◌else◌
+unfolding script_record record_after is_call when◌then◌else◌
 call_more [] rest c e = apart (cc e)
 call_more (kind ∷ b) rest c e =
     by_test (is_call kind b)
@@ -101,7 +100,7 @@ call_more (kind ∷ b) rest c e =
 
 -- no record begins there, whatever follows
 wrong_first : (b rest : List ℕ) → script_record b ≡ ScriptRecord.Wrong → (n : ℕ) (s : Session) → printed_all n (b ++ rest) s ≡ text "script\n"
-unfolding script_record record_after is_call printed_all printed_script if◌then◌else◌
+unfolding script_record record_after is_call printed_all printed_script when◌then◌else◌
 wrong_first [] rest e n s = apart (cc e)
 wrong_first (kind ∷ b) rest e n s =
     by_test (is_script_kind kind)
@@ -114,7 +113,7 @@ unfolding printed_all printed_script
 prints_nothing b e n s = rw e
 
 pub cut_first : (b : List ℕ) → (length b ≡ 0 → ⊥) → script_record b ≡ ScriptRecord.Cut → (n : ℕ) (s : Session) → printed_all n b s ≡ text "script\n"
-unfolding script_record record_after printed_all printed_script if◌then◌else◌
+unfolding script_record record_after printed_all printed_script when◌then◌else◌
 cut_first [] h e n s = absurd (h refl)
 cut_first (kind ∷ b) h e n s = by_test (is_call kind b) (λ p. apart (cc (rw p at e))) (λ p. rw p)
 

@@ -5,7 +5,6 @@ use Rattle.machine.specs.PrintedRun.{printed_script}
 use Rattle.machine.specs.declared.Call.{Call}
 use Rattle.machine.specs.declared.Call.TheVariants.{Command, Key, Tick}
 use Rattle.machine.specs.declared.Session.{Session}
-use Rattle.printing.specs.declared.script.ScriptRecord
 use Rattle.printing.specs.declared.script.ScriptRecord.{ScriptRecord}
 use Rattle.printing.specs.Lines.{line_room}
 use Rattle.printing.specs.Script.{script_record}

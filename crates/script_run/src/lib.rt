@@ -1,4 +1,6 @@
 // A script run on slices: the records at the front of its bytes, one call each, and the lines that they print.
+#![tactic(auto)]
+
 ghost use Rattle.std.specs.Prelude.{false, ◌≡◌, ℕ, ◌+◌, ◌^◌, ◌<◌, ◌≤◌, length, take};
 ghost use Rattle.std.proofs.Math.Seq.{slice};
 ghost use Rattle.machine.specs.Answers.{call_answer};
@@ -17,7 +19,7 @@ use printing::script::ScriptRecord;
 
 // Why a part of a script stopped: there is no room for one line more; the bytes that are left are a cut record, or none; or the line
 // of a wrong record was written.
-#[derive(Drop)]
+#[derive(Clone, Copy)]
 pub enum Stop {
     Full,
     Cut,
@@ -26,7 +28,7 @@ pub enum Stop {
 
 // What is run of a part of a script: the session then, the number of the next call, how many bytes of the part were used and of
 // `out` filled, and why it stopped.
-#[derive(Drop)]
+#[derive(Clone, Copy)]
 pub struct Part {
     pub session: Session,
     pub number: u64,

@@ -1,4 +1,6 @@
 // Whether a session is broken. Any session may be handed in: its counts may be any numbers, its bytes any bytes.
+#![tactic(auto)]
+
 ghost use Rattle.std.specs.Prelude.{◌≡◌};
 ghost use Rattle.machine.specs.Broken.{broken};
 

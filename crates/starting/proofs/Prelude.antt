@@ -5,4 +5,4 @@ pub use native.Mathlib.Omega.{arith}
 pub use lib.ListN.{length}
 pub use borrow.Author.Rules.{rules}
 pub use borrow.Author.Tests.{eq-eqb, ne_eqb}
-unfoldable pub use Rattle.base.specs.Tests.{if◌then◌else◌}
+unfoldable pub use Rattle.base.specs.Tests.{when◌then◌else◌}

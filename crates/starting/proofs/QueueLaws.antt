@@ -7,7 +7,7 @@ use native.Mathlib.Omega.{arith}
 use borrow.Author.Tests.{eqb-false, eq-eqb}
 use lib.ListN.{length, length-set, get_or, set, replicate}
 use lib.Seq.{get_or-set_same, get_or-set_other}
-use Rattle.base.specs.Tests.{if◌then◌else◌, by_test, ◌=?◌}
+use Rattle.base.specs.Tests.{when◌then◌else◌, by_test, ◌=?◌}
 use Rattle.base.specs.Loops.{ascending, ascending_more, ascending_same}
 use Rattle.machine.specs.Terms.{sleeping, occurring, to_start}
 use Rattle.machine.specs.Events.{Run, choices_set, node_state, transition, next_state, line_first, node_to, node_changed, anchor_to, anchor_changed, anchors_moved, media_to, media_moved}
@@ -21,12 +21,12 @@ use Rattle.starting.specs.Reaching.{sleepers, Room, ReachRun}
 -- ---- how many sleep: no more than there are, and one less after one wakes
 
 sleepers_few : (states : List ℕ) → sleepers states ≤ length states
-unfolding sleepers if◌then◌else◌
+unfolding sleepers when◌then◌else◌
 sleepers_few [] = omega arith
 sleepers_few (x ∷ xs) = by_test (x =? sleeping) (λ e. rw e (omega (arith, sleepers_few xs))) (λ e. rw e (omega (arith, sleepers_few xs)))
 
 sleepers_less : (states : List ℕ) (n : ℕ) → n < length states → get_or states n 0 ≡ sleeping → sleepers (set states n occurring) + 1 ≡ sleepers states
-unfolding sleepers if◌then◌else◌
+unfolding sleepers when◌then◌else◌
 sleepers_less [] n h e = absurd (omega arith)
 sleepers_less (x ∷ xs) zero h e = rw e (omega arith)
 sleepers_less (x ∷ xs) (suc n) h e = omega (arith, sleepers_less xs n (omega arith) e)
@@ -41,7 +41,7 @@ next_awake (suc (suc zero)) h = refl
 next_awake (suc (suc (suc state))) h = refl
 
 pub awake_stays : (d : Document) (n : ℕ) (r : Run) → (node_state r.state n ≡ sleeping → ⊥) → media_moved d.anchors to_start n r ≡ r
-unfolding media_moved if◌then◌else◌
+unfolding media_moved when◌then◌else◌
 awake_stays d n r h = rw (next_awake _ h, eq-eqb (node_state r.state n) _ refl)
 
 record Has (states : List ℕ) (r x : Run) : Type 0 where
@@ -54,7 +54,7 @@ anchors_leave d moves aborting n new states r x =
     pass_keeps d (Has states r) moves aborting n new (λ a y h e p. chosen (Has states r) _ (λ _. p) (λ _. record { states_are = p.states_are; values_stay = p.values_stay })) x
 
 media_wakes : (d : Document) (n : ℕ) (r : Run) → node_state r.state n ≡ sleeping → Has (set r.state.nodes.states n occurring) r (media_moved d.anchors to_start n r)
-unfolding media_moved media_to next_state line_first node_to node_changed transition if◌then◌else◌
+unfolding media_moved media_to next_state line_first node_to node_changed transition when◌then◌else◌
 media_wakes d n r e = rw e (anchors_leave d _ _ n _ _ r _ (record { states_are = refl; values_stay = refl }))
 
 -- ---- media n at the end of the queue
@@ -70,7 +70,7 @@ module _ (media : List ℕ) (count n : ℕ) (h : count < length media) where
       (rw (get_or-set_same media count n 0 h))
 
   pub ids_more : n < 64 → ((i : ℕ) → i < count → get_or media i 0 < 64) → (i : ℕ) → i < count + 1 → get_or (set media count n) i 0 < 64
-  unfolding if◌then◌else◌
+  unfolding when◌then◌else◌
   ids_more k ids i l = rw (get_d_set media count i n 0 h) (by_test (count =? i) (λ q. rw q k) (λ q. rw q (ids i (omega (arith, eqb-false count i q)))))
 
 module _ (states media : List ℕ) (count n : ℕ) (room : Room states (queue_of media count)) (h : n < 64) (sleeps : get_or states n 0 ≡ sleeping) where

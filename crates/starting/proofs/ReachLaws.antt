@@ -8,7 +8,7 @@ use native.Mathlib.Omega.{arith}
 use borrow.Author.Tests.{eqb-true, eqb-false, ne_eqb, ltb-true}
 use lib.IntN.{ℤ}
 use lib.ListN.{get_or, set, replicate}
-use Rattle.base.specs.Tests.{if◌then◌else◌, by_test, not_true, ◌=?◌, ◌<?◌}
+use Rattle.base.specs.Tests.{when◌then◌else◌, by_test, not_true, ◌=?◌, ◌<?◌}
 use Rattle.base.specs.Loops.{ascending, ascending_more, ascending_done}
 use Rattle.machine.specs.Terms.{context, media, sleeping, occurring, to_start}
 use Rattle.machine.specs.Tables.{type_of, is_media, bind_at, port_at}
@@ -45,7 +45,7 @@ from_start Context n d levels r = context_by n d (levels - 1) r
 from_start Switch n d levels r = switch_by n d (levels - 1) r
 
 pub started_from : (d : Document) (levels n : ℕ) (r : Run) → 0 < levels → started d levels n r ≡ from_start (start_of true (type_of d.nodes n) (node_state r.state n)) n d levels r
-unfolding started_one start_of if◌then◌else◌
+unfolding started_one start_of when◌then◌else◌
 started_from d levels n r h =
     one_level d levels n r h
     ∙ by_test (node_state r.state n =? sleeping)
@@ -62,7 +62,7 @@ Finds n child state Context = LaterChild n child
 Finds n child state Switch = LaterChild n child
 
 abbrev pub child_by : Bool → ℕ → Document → ℕ → Run → Run
-child_by reached child d levels r = if reached then started d levels child r else r
+child_by reached child d levels r = when reached then started d levels child r else r
 
 -- the tables after it
 abbrev pub After : StartTables → ℕ → Start → List ℕ → List ℕ → ℕ → List ℕ → List ℕ → List ℕ → ℕ → List ℕ → Type 0
@@ -84,7 +84,7 @@ from_start_lem w n child states media count choices Switch f room r = record { r
 module _ (w : StartTables) (n child : ℕ) (reached : Bool) (states : List ℕ) (start : Start) (is : start ≡ start_of reached (get_or w.types child 0) (get_or states child 0))
     (is_later : reached ≡ true → LaterChild n child) where
   pub finds : Finds n child (get_or states child 0) start
-  unfolding start_of if◌then◌else◌
+  unfolding start_of when◌then◌else◌
   finds =
       rw is
       (by_test reached
@@ -97,7 +97,7 @@ module _ (w : StartTables) (n child : ℕ) (reached : Bool) (states : List ℕ) 
   module _ (media : List ℕ) (count : ℕ) (choices : List ℕ) {states' media' : List ℕ} {count' : ℕ} {choices' : List ℕ} (room : Room states (queue_of media count))
       (after : After w child start states media count choices states' media' count' choices') where
     pub child_reached : Reached w n (child_by reached child) states (reach_of media count choices) states' (reach_of media' count' choices')
-    unfolding start_of if◌then◌else◌
+    unfolding start_of when◌then◌else◌
     child_reached =
         let turn = from_start_lem w n child states media count choices start finds room after in
         record {
@@ -156,8 +156,8 @@ module _ (w : StartTables) (later : LaterChildren w) (n p of child : ℕ) (h : p
 
 module _ (w : StartTables) (n child : ℕ) (h : n < 64) (same : child ≡ get_or w.chosen n 0) where
   switch_started_lem : (d : Document) (values : List ℤ) → StartTablesOf d values w → (start : ℕ → Run → Run) (x : Run) → x.state.properties.values ≡ values
-      → switch_started d start n x ≡ (if not (child =? 0) then start child (choice_made n child x) else choice_made n child x)
-  unfolding switch_started child_found if◌then◌else◌
+      → switch_started d start n x ≡ (when not (child =? 0) then start child (choice_made n child x) else choice_made n child x)
+  unfolding switch_started child_found when◌then◌else◌
   switch_started_lem d values i start x v =
       let found = found_bind d.binds d.rules values n in
       let c = same ∙ i.chosen.found n h in
@@ -201,7 +201,7 @@ module _ (w : StartTables) (n child : ℕ) (h : n < 64) (same : child ≡ get_or
 
 module _ (d : Document) (sound : Sound d) (values : List ℤ) (chosen : List ℕ) (found : FoundChildren d.binds d.rules values chosen) where
   pub later_children : LaterChildren (tables_in d chosen)
-  unfolding child_found if◌then◌else◌
+  unfolding child_found when◌then◌else◌
   later_children = record {
     few = sound.ports;
     port = λ p h. record { later = sound.port_later p h; below = omega (arith, sound.port_child p h, sound.nodes.few) };

@@ -1,7 +1,7 @@
 -- A start first puts the media that it reaches in a queue, and then they start in the queue's order. Until then composites and
 -- values stay as they are, and a media in the queue counts as awake.
 use Rattle.std.specs.Prelude.{ℕ, ◌+◌, ◌≤◌, ◌<◌, Bool, not, List, [], ◌∷◌, ◌≡◌, ℤ, length, get_or}
-use Rattle.base.specs.Tests.{if◌then◌else◌, ◌=?◌}
+use Rattle.base.specs.Tests.{when◌then◌else◌, ◌=?◌}
 use Rattle.machine.specs.Terms.{context, media, sleeping}
 use Rattle.machine.specs.Tables.{port_at}
 use Rattle.machine.specs.Events.{Run, awake, context_started, switch_started, started}
@@ -19,10 +19,10 @@ use Rattle.starting.specs.declared.reaching.Start.{Start}
 -- what is found at a node of this type and state, if it is reached: "Start of an awake composite does nothing", nor does that of an awake media
 unfoldable pub start_of : Bool → ℕ → ℕ → Start
 start_of reached type state =
-    if not reached then Start.Nothing
-    else if awake state then Start.Nothing
-    else if type =? media then Start.Media
-    else if type =? context then Start.Context
+    when not reached then Start.Nothing
+    else when awake state then Start.Nothing
+    else when type =? media then Start.Media
+    else when type =? context then Start.Context
     else Start.Switch
 
 -- ---- the tables that a start goes by: the ports, the types of nodes, and the child that each switch finds
@@ -57,7 +57,7 @@ pub record LaterChildren (w : StartTables) : Type 0 where
 -- how many of these states are sleeping
 unfoldable pub sleepers : List ℕ → ℕ
 sleepers [] = 0
-sleepers (state ∷ states) = (if state =? sleeping then 1 else 0) + sleepers states
+sleepers (state ∷ states) = (when state =? sleeping then 1 else 0) + sleepers states
 
 -- the queue has room for all that sleep
 pub record Room (states : List ℕ) (q : Queue) : Type 0 where

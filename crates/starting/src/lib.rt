@@ -1,5 +1,7 @@
 // Which media the start of a node reaches, in which order, and what the switches that it reaches choose. Nothing is started here: the
 // answer is a queue of media, with the choices.
+#![tactic(auto)]
+
 mod reaching;
 
 ghost use Rattle.std.specs.Prelude.{◌<◌};
@@ -11,14 +13,14 @@ use machine::Document;
 use reaching::{Start, start_context, start_of, start_switch};
 
 // The first `count` entries of `media`, in this order.
-#[derive(Drop)]
+#[derive(Clone, Copy)]
 pub struct Queue {
     pub media: [u8; 64],
     pub count: usize,
 }
 
 // What a start reaches: its media, and the choices after it.
-#[derive(Drop)]
+#[derive(Clone, Copy)]
 pub struct Reach {
     pub queue: Queue,
     pub choices: [u8; 64],

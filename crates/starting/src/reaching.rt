@@ -9,7 +9,7 @@ use base::index_of;
 use machine::terms;
 
 // What a start finds at a node: a sleeping media, context or switch, or nothing that it would change.
-#[derive(Drop)]
+#[derive(Clone, Copy)]
 pub enum Start {
     Nothing,
     Media,

@@ -4,10 +4,10 @@ use mathlib.Core.Bool.{Bool, true, false, ◌&&◌, ◌||◌, or-true, or-false}
 use Prim.Native.Nat.{ℕ}
 use native.Mathlib.Omega.{arith}
 use borrow.Author.Tests.{eqb-true, eqb-false, lt-ltb}
-use Rattle.base.specs.Tests.{if◌then◌else◌, by_test, ◌=?◌, ◌<?◌}
+use Rattle.base.specs.Tests.{when◌then◌else◌, by_test, ◌=?◌, ◌<?◌}
 
-pub zero_right : (is_awake : Bool) (duration clock : ℕ) → (is_awake && (duration =? 0 || clock <? duration) || clock =? 0) ≡ (if is_awake then duration =? 0 || clock <? duration else clock =? 0)
-unfolding if◌then◌else◌
+pub zero_right : (is_awake : Bool) (duration clock : ℕ) → (is_awake && (duration =? 0 || clock <? duration) || clock =? 0) ≡ (when is_awake then duration =? 0 || clock <? duration else clock =? 0)
+unfolding when◌then◌else◌
 zero_right false duration clock = refl
 zero_right true duration clock =
     by_test (clock =? 0)

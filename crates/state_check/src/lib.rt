@@ -1,6 +1,8 @@
 // The states obey the rules of composites, anchors and clocks.
+#![tactic(auto)]
+
 ghost use Rattle.std.specs.Prelude.{◌≡◌, ℕ, ◌<◌, ◌≤◌, true, false, get_or, replicate};
-ghost use Rattle.base.specs.Tests.{if◌then◌else◌};
+ghost use Rattle.base.specs.Tests.{when◌then◌else◌};
 ghost use Rattle.base.specs.Loops.{every};
 ghost use Rattle.base.specs.Marks.{Marked};
 ghost use Rattle.machine.specs.Terms.{occurring, paused, sleeping};
@@ -39,7 +41,7 @@ fn mark_parents(
 
 // The state that the children give: whether one is occurring, and whether one is paused.
 fn state_of_children(occurs: bool, pauses: bool) -> u8
-    ensures { result ≡ (if occurs then occurring else if pauses then paused else sleeping) }
+    ensures { result ≡ (when occurs then occurring else when pauses then paused else sleeping) }
 {
     if occurs {
         return terms::OCCURRING;

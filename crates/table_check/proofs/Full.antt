@@ -4,7 +4,7 @@ use mathlib.Core.Bool.{Bool, true, false, ◌&&◌, ◌||◌, and-false}
 use Prim.Native.Nat.{ℕ, ◌<◌}
 use native.Mathlib.Omega.{arith}
 use borrow.Author.Tests.{lt-leb, leb-true, leb-false}
-use Rattle.base.specs.Tests.{if◌then◌else◌, by_test, ◌=?◌, ◌≤?◌}
+use Rattle.base.specs.Tests.{when◌then◌else◌, by_test, ◌=?◌, ◌≤?◌}
 use Rattle.base.specs.Loops.{every, each_every, every_fails}
 use Rattle.machine.specs.declared.Document.{Document}
 use Rattle.machine.specs.Terms.{simple_rule, composite_rule}
@@ -14,41 +14,41 @@ use Rattle.machine.specs.Broken.{node_obeys, anchor_obeys, property_obeys, rule_
 
 module _ (d : Document) where
   pub full_nodes : node_obeys d 64 ≡ false
-  unfolding node_obeys node_fault if◌then◌else◌
+  unfolding node_obeys node_fault when◌then◌else◌
   full_nodes = refl
 
   pub full_anchors : anchor_obeys d 128 ≡ false
-  unfolding anchor_obeys anchor_fault if◌then◌else◌
+  unfolding anchor_obeys anchor_fault when◌then◌else◌
   full_anchors = refl
 
   pub full_properties : property_obeys d 32 ≡ false
-  unfolding property_obeys property_fault if◌then◌else◌
+  unfolding property_obeys property_fault when◌then◌else◌
   full_properties = refl
 
   pub full_rules : rule_obeys d 32 ≡ false
-  unfolding rule_obeys rule_fault if◌then◌else◌
+  unfolding rule_obeys rule_fault when◌then◌else◌
   full_rules =
       let r = rule_at d.rules 32 in
       ap (λ (b : Bool). b && rule_unused_zero r) (and-false (r.kind =? simple_rule || r.kind =? composite_rule))
 
   pub full_binds : bind_obeys d 64 ≡ false
-  unfolding bind_obeys bind_fault if◌then◌else◌
+  unfolding bind_obeys bind_fault when◌then◌else◌
   full_binds = refl
 
   pub full_ports : port_obeys d 64 ≡ false
-  unfolding port_obeys port_fault if◌then◌else◌
+  unfolding port_obeys port_fault when◌then◌else◌
   full_ports = refl
 
   pub full_links : link_obeys d 64 ≡ false
-  unfolding link_obeys link_fault if◌then◌else◌
+  unfolding link_obeys link_fault when◌then◌else◌
   full_links = refl
 
   pub full_actions : (l : ℕ) → action_obeys d l 8 ≡ false
-  unfolding action_obeys action_fault if◌then◌else◌
+  unfolding action_obeys action_fault when◌then◌else◌
   full_actions l = refl
 
   within : (k : ℕ) → k < 32 → property_obeys d k ≡ true
-  unfolding property_obeys property_fault if◌then◌else◌
+  unfolding property_obeys property_fault when◌then◌else◌
   within k h = rw (lt-leb 32 k h)
 
   -- the number of properties is all that can break their rule

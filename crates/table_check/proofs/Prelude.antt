@@ -5,7 +5,7 @@ pub use Prim.Native.Nat.{◌≤◌, ◌-◌}
 pub use native.Mathlib.Omega.{arith}
 pub use borrow.Author.Rules.{rules}
 pub use borrow.Author.Tests.{eq-eqb, ne_eqb}
-unfoldable pub use Rattle.base.specs.Tests.{if◌then◌else◌}
+unfoldable pub use Rattle.base.specs.Tests.{when◌then◌else◌}
 unfoldable pub use Rattle.base.specs.Loops.{every}
 pub use Rattle.base.specs.Loops.{every_none, every_more, every_done, every_fails}
 pub use Rattle.machine.specs.declared.Document.{Document}

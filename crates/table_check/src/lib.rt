@@ -1,4 +1,6 @@
 // The tables obey the rules of loading: each entry is checked as the record that made it.
+#![tactic(auto)]
+
 ghost use Rattle.std.specs.Prelude.{◌≡◌, ◌<◌};
 ghost use Rattle.base.specs.Loops.{every};
 ghost use Rattle.machine.specs.Tables.{rule_at};

@@ -7,7 +7,7 @@ use native.Mathlib.Omega.{arith}
 use borrow.Author.Tests.{eqb-true, ltb-true}
 use lib.ListN.{get_or, set}
 use lib.Seq.{get_or-set_other}
-use Rattle.base.specs.Tests.{if◌then◌else◌, ◌=?◌, ◌<?◌, by_test}
+use Rattle.base.specs.Tests.{when◌then◌else◌, ◌=?◌, ◌<?◌, by_test}
 use Rattle.base.specs.Loops.{ascending, past_last, ascending_turns}
 use Rattle.base.specs.Marks.{LastFound, found_more}
 use Rattle.machine.specs.Terms.{media, occurring}
@@ -18,7 +18,6 @@ use Rattle.machine.specs.declared.Anchors.{Anchors}
 use Rattle.machine.specs.declared.Document.{Document}
 use Rattle.machine.proofs.Keep.{chosen}
 use Rattle.transitions.specs.Due.{due_at, due_of}
-use Rattle.transitions.specs.declared.media.Due.{Due}
 use Rattle.ticking.specs.Advancing.{advancing, due_next}
 
 pub low_clock : (type state clock : ℕ) → advancing type state clock ≡ true → clock < 65_535
@@ -75,7 +74,7 @@ later_clocks d i r =
 
 -- one anchor more is looked at
 pub found_due : (media times clocks : List ℕ) (a m : ℕ) (table : List ℕ) (is-due : Bool) → m < 64 → m ≡ get_or media a 0 → is-due ≡ (get_or times a 0 =? get_or clocks m 0 + 1)
-    → LastFound (due_next media times clocks) a table → LastFound (due_next media times clocks) (a + 1) (if is-due then set table m (a + 1) else table)
+    → LastFound (due_next media times clocks) a table → LastFound (due_next media times clocks) (a + 1) (when is-due then set table m (a + 1) else table)
 unfolding due_at due_next
 found_due media times clocks a m table is-due h e p =
     found_more _ a m table is-due h (λ n. rw (p, ← e) (by_test (m =? n) (λ q. rw (q, eqb-true m n q)) (λ q. rw q)))
@@ -84,11 +83,11 @@ found_due media times clocks a m table is-due h e p =
 
 module _ (d : Document) (n : ℕ) (r : Run) where
   pub ticked_not : advancing (type_of d.nodes n) (node_state r.state n) (node_clock r.state n) ≡ false → r ≡ ticked_one d n r
-  unfolding ticked_one advancing if◌then◌else◌
+  unfolding ticked_one advancing when◌then◌else◌
   ticked_not e = rw e
 
   pub ticked_passes : {z : Run} → advancing (type_of d.nodes n) (node_state r.state n) (node_clock r.state n) ≡ true → z ≡ passed d n (node_clock r.state n + 1) r → z ≡ ticked_one d n r
-  unfolding ticked_one advancing if◌then◌else◌
+  unfolding ticked_one advancing when◌then◌else◌
   ticked_passes e p = rw e p
 
   -- its turn comes after the media before it; what is due was found by the clocks before them all

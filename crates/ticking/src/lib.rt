@@ -1,4 +1,6 @@
 // The tick's own part, every media that occurs and one settling; and a key.
+#![tactic(auto)]
+
 ghost use Rattle.std.specs.Prelude.{◌≡◌, ℕ, ◌+◌, ◌<◌, ◌≤◌, get_or};
 ghost use Rattle.base.specs.Tests.{◌=?◌};
 ghost use Rattle.base.specs.Loops.{ascending};
@@ -9,9 +11,9 @@ ghost use Rattle.events.specs.Running.{run};
 ghost use Rattle.ticking.specs.Advancing.{advancing, due_next};
 
 use base::index_of;
+use call_log::emit;
 use events::Work;
 use events::settling::settle;
-use log::emit;
 use machine::{Document, terms};
 use transitions::media::{Due, pass_media};
 

@@ -4,7 +4,7 @@ use mathlib.Core.Bool.{Bool, true, false, ◌&&◌, and-false}
 use mathlib.Core.List.{List}
 use Prim.Native.Nat.{ℕ}
 use lib.ListN.{get_or}
-use Rattle.base.specs.Tests.{if◌then◌else◌, ◌=?◌}
+use Rattle.base.specs.Tests.{when◌then◌else◌, ◌=?◌}
 use Rattle.base.specs.Loops.{past_last, past_last_most, past_last_none, ascending_within}
 use Rattle.machine.specs.Terms.{no_transition, sleeping, occurring, to_stop}
 use Rattle.machine.specs.Tables.{anchor_at}
@@ -18,8 +18,8 @@ use Rattle.transitions.specs.Due.{due_at, due_of}
 
 -- an anchor that does not move has no transition
 changed_if : (b aborting : Bool) (a new : ℕ) (r : Run)
-    → (if b then anchor_to aborting a new r else r) ≡ anchor_changed a new (if b then transition aborting (anchor_state r.state a) new else no_transition) r
-unfolding if◌then◌else◌ anchor_to anchor_changed
+    → (when b then anchor_to aborting a new r else r) ≡ anchor_changed a new (when b then transition aborting (anchor_state r.state a) new else no_transition) r
+unfolding when◌then◌else◌ anchor_to anchor_changed
 changed_if true aborting a new r = refl
 changed_if false aborting a new r = refl
 
@@ -30,7 +30,7 @@ stays_with false b c e = refl
 
 -- one anchor, by its transition
 pub anchor_moved_lem : (anchors : Anchors) (moves : ℕ → ℕ → ℕ → Bool) (aborting : Bool) (n new a : ℕ) (r : Run) {z : Run} (change : ℕ)
-    → change ≡ (if (anchor_at anchors a).media =? n && moves (anchor_at anchors a).begin (anchor_at anchors a).end (anchor_state r.state a) then transition aborting (anchor_state r.state a) new else no_transition)
+    → change ≡ (when (anchor_at anchors a).media =? n && moves (anchor_at anchors a).begin (anchor_at anchors a).end (anchor_state r.state a) then transition aborting (anchor_state r.state a) new else no_transition)
     → z ≡ anchor_changed a new change r → z ≡ anchor_moved anchors moves aborting n new a r
 unfolding anchor_moved
 anchor_moved_lem anchors moves aborting n new a r change e p = p ∙ rw e (sym (changed_if _ aborting a new r))
@@ -39,7 +39,7 @@ anchor_moved_lem anchors moves aborting n new a r change e p = p ∙ rw e (sym (
 module _ (count : ℕ) (media begins ends : List ℕ) (n clock new : ℕ) (r : Run) where
   moved_within : (moves : ℕ → ℕ → ℕ → Bool) (due : ℕ → Bool) → ((a state : ℕ) → due a ≡ false → get_or media a 0 =? n && moves (get_or begins a 0) (get_or ends a 0) state ≡ false)
       → anchors_moved (anchors_of (past_last due count) media begins ends) moves false n new r ≡ anchors_moved (anchors_of count media begins ends) moves false n new r
-  unfolding anchors_moved anchor_moved if◌then◌else◌
+  unfolding anchors_moved anchor_moved when◌then◌else◌
   moved_within moves due none =
       ascending_within (anchor_moved (anchors_of count media begins ends) moves false n new) (past_last due count) count r (past_last_most due count)
       (λ a y l h. rw (none a (anchor_state y.state a) (past_last_none due count a l h)))
@@ -61,9 +61,9 @@ module _ (d : Document) (count : ℕ) (media begins ends : List ℕ) (n clock : 
   anchors_pass = q ∙ rw (p, is, of) (beginning_within count media begins ends n clock occurring _ ∙ rw (ending_within count media begins ends n clock sleeping _))
 
   pub passes_end : {z : Run} → due.stops ≡ true → z ≡ media_moved (anchors_of count media begins ends) to_stop n y → z ≡ passed d n clock r
-  unfolding passed due_of if◌then◌else◌
+  unfolding passed due_of when◌then◌else◌
   passes_end e z = z ∙ rw (← of, anchors_pass, sym (ap (λ (t : Due). t.stops) is) ∙ e)
 
   pub passes_on : due.stops ≡ false → y ≡ passed d n clock r
-  unfolding passed due_of if◌then◌else◌
+  unfolding passed due_of when◌then◌else◌
   passes_on e = rw (sym (ap (λ (t : Due). t.stops) is) ∙ e) anchors_pass

@@ -3,12 +3,12 @@ ghost use Rattle.std.specs.Prelude.{◌≡◌, ◌≤◌};
 ghost use Rattle.machine.specs.Events.{anchors_moved};
 ghost use Rattle.machine.specs.declared.NodeEvents.{NodeEvents};
 ghost use Rattle.machine.specs.OfColumns.{anchor_events_of, anchors_of};
-ghost use Rattle.log.specs.LogSlice.{log_of};
+ghost use Rattle.call_log.specs.LogSlice.{log_of};
 ghost use Rattle.changes.specs.Moves.{moves};
 ghost use Rattle.transitions.specs.Lent.{Rest, run_with};
 
+use call_log::{Written, emit};
 use changes::{Moving, anchor_transition, count_after};
-use log::{Written, emit};
 use machine::terms;
 
 // The anchors of media n that move go to the state, in id order; of so many anchors, with these media, begins and ends.

@@ -5,14 +5,14 @@ ghost use Rattle.machine.specs.Events.{media_moved};
 ghost use Rattle.machine.specs.Tick.{passed};
 ghost use Rattle.machine.specs.declared.Document.{Document};
 ghost use Rattle.machine.specs.OfColumns.{node_events_of, anchor_events_of, anchors_of};
-ghost use Rattle.log.specs.LogSlice.{log_of};
+ghost use Rattle.call_log.specs.LogSlice.{log_of};
 ghost use Rattle.transitions.specs.Lent.{Rest, run_with};
 ghost use Rattle.transitions.specs.Due.{due_of};
 
 use super::anchors::move_anchors;
 use super::node::node_to;
+use call_log::Written;
 use changes::{Moving, following, line_first};
-use log::Written;
 use machine::terms;
 use records::tables::next_state;
 
@@ -85,7 +85,7 @@ pub fn move_media<'a>(
 
 // What is due for a media at a clock: its anchors that end there are among the first `ending` of all anchors, those that begin
 // there among the first `beginning`; and whether it stops itself.
-#[derive(Drop)]
+#[derive(Clone, Copy)]
 pub struct Due {
     pub ending: usize,
     pub beginning: usize,

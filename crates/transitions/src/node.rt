@@ -3,11 +3,11 @@ ghost use Rattle.std.specs.Prelude.{◌≡◌, ◌<◌};
 ghost use Rattle.machine.specs.Events.{node_to};
 ghost use Rattle.machine.specs.declared.AnchorEvents.{AnchorEvents};
 ghost use Rattle.machine.specs.OfColumns.{node_events_of};
-ghost use Rattle.log.specs.LogSlice.{log_of};
+ghost use Rattle.call_log.specs.LogSlice.{log_of};
 ghost use Rattle.transitions.specs.Lent.{Rest, run_with};
 
+use call_log::{Written, emit};
 use changes::{clock_after, count_after, transition_of};
-use log::{Written, emit};
 use machine::terms;
 
 // Node n goes to the state.

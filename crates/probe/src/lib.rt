@@ -1,5 +1,7 @@
 // The player's operations for tests and measurements from another language: sessions go in and come back as C lays them
 // out, so that any session can be handed over.
+#![tactic(auto)]
+
 ghost use Rattle.std.specs.Prelude.{List, ◌≡◌, ℕ, length};
 ghost use Rattle.machine.specs.Answers.{read_answer, counts_answer, count_answer};
 ghost use Rattle.machine.specs.Load.{load};
@@ -17,7 +19,7 @@ use machine::{
 
 // What a load or a call returned: the number of its refusal, or that it was accepted, with the firings of a call.
 #[repr(C)]
-#[derive(Drop)]
+#[derive(Clone, Copy)]
 pub struct ReturnedSession {
     pub accepted: bool,
     pub refusal: u8,
@@ -27,7 +29,7 @@ pub struct ReturnedSession {
 
 // What a read returned.
 #[repr(C)]
-#[derive(Drop)]
+#[derive(Clone, Copy)]
 pub struct ReturnedReading {
     pub accepted: bool,
     pub refusal: u8,
@@ -38,7 +40,7 @@ pub struct ReturnedReading {
 
 // What a check of counts returned: the number of the first condition that fails, 0 if none does.
 #[repr(C)]
-#[derive(Drop)]
+#[derive(Clone, Copy)]
 pub struct ReturnedCheck {
     pub accepted: bool,
     pub refusal: u8,
@@ -47,7 +49,7 @@ pub struct ReturnedCheck {
 
 // What was returned for an anchor's count.
 #[repr(C)]
-#[derive(Drop)]
+#[derive(Clone, Copy)]
 pub struct ReturnedCount {
     pub accepted: bool,
     pub refusal: u8,

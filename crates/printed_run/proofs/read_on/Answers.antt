@@ -1,0 +1,9 @@
+-- `printed_run::read_on` meets its contract.
+use Rattle.std.proofs.Common.{arith, rules}
+use borrow.Rule.Slice.PartMut.{take_put}
+use Rattle.printed_run.proofs.Parts.{more_held}
+use Rattle.printed_run.proofs.read_on.Goals as goal
+
+pub returns : goal.returns
+returns g c =
+    more_held c.args.held _ _ _ (omega arith) (search rules) (rw (take_put c.args.held _ _ _ c.requires.0))

@@ -1,0 +1,6 @@
+-- `probe::probe_tick` meets its contract.
+use Rattle.std.proofs.Common.{◌∙◌}
+use Rattle.probe.proofs.probe_tick.Goals as goal
+
+pub returns : goal.returns
+returns c = c.returned_call.ensures _ ∙ c.tick.ensures

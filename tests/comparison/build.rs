@@ -1,5 +1,5 @@
 //! Links the static library `probe`: in the folder that PROBE_LIBRARY names, or else where
-//! `rt staticlib probe` leaves it.
+//! `rt lib` in `crates/probe` leaves it.
 
 use std::env;
 use std::path::PathBuf;
@@ -9,12 +9,12 @@ fn main() {
     let folder = env::var_os("PROBE_LIBRARY").map_or_else(
         || {
             let package = env::var_os("CARGO_MANIFEST_DIR").expect("cargo names the package");
-            PathBuf::from(package).join("../../target/staticlib")
+            PathBuf::from(package).join("../../crates/probe/out")
         },
         PathBuf::from,
     );
     let library = folder.join("libprobe.a");
-    assert!(library.exists(), "{}: not there; run `rt staticlib probe`", library.display());
+    assert!(library.exists(), "{}: not there; run `rt lib` in crates/probe", library.display());
     println!("cargo:rerun-if-changed={}", library.display());
     println!("cargo:rustc-link-search=native={}", folder.display());
     println!("cargo:rustc-link-lib=static=probe");

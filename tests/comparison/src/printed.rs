@@ -7,15 +7,16 @@ use std::{env, fs};
 
 use crate::compare::Difference;
 
-/// The program that PRINTED_RUN names, or else the one that `rt check printed_run` leaves.
+/// The program that PRINTED_RUN names, or else the one that `rt run` in `crates/printed_run` leaves.
 pub fn program() -> PathBuf {
     let path = env::var_os("PRINTED_RUN").map_or_else(
-        || Path::new(env!("CARGO_MANIFEST_DIR")).join("../../target/bin/printed_run"),
+        || Path::new(env!("CARGO_MANIFEST_DIR")).join("../../crates/printed_run/out/printed_run"),
         PathBuf::from,
     );
     // A relative path would be looked up in the folder that the program is started in.
-    fs::canonicalize(&path)
-        .unwrap_or_else(|_| panic!("{}: not there; run `rt check printed_run`", path.display()))
+    fs::canonicalize(&path).unwrap_or_else(|_| {
+        panic!("{}: not there; run `rt run` in crates/printed_run", path.display())
+    })
 }
 
 /// A folder under the system's temporary one, removed in the end, also by a failing test.

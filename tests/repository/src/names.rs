@@ -9,11 +9,16 @@ const ELSEWHERE: [&str; 6] =
     ["../shared", "00-demands.md", "01-scope.md", "02-change-requests.md", "rt", "cc"];
 
 /// What the names of things that are built, or that the kit gives, begin with.
-const BUILT_OR_GIVEN: [&str; 2] = ["target/", "std::"];
+const BUILT_OR_GIVEN: [&str; 3] = ["target/", "out/", "std::"];
+
+/// What a reference in a contract has: what it refers to now, as the call begins, and as it returns.
+const OF_REFERENCES: [&str; 3] = ["now", "old", "new"];
 
 /// The lists of examples, by the letter of their entries.
-const EXAMPLES: [(char, &str); 2] =
-    [('E', "crates/machine/specs/Examples.antt"), ('C', "crates/machine/specs/ChoiceExamples.antt")];
+const EXAMPLES: [(char, &str); 2] = [
+    ('E', "crates/machine/specs/Examples.antt"),
+    ('C', "crates/machine/specs/ChoiceExamples.antt"),
+];
 
 /// The names of a document that name nothing, each with the number of its line.
 pub fn missing(document: &str, sources: &Sources) -> Vec<String> {
@@ -44,6 +49,8 @@ fn wrong_in_code(code: &str, sources: &Sources) -> Vec<String> {
             true
         } else if let Some(there) = is_there(word, sources) {
             there
+        } else if let Some(path) = word.strip_prefix("Rattle.") {
+            has_module(path, sources)
         } else if let Some((of, name)) = word.rsplit_once("::") {
             let of_type = of.rsplit("::").next().expect("a part");
             sources.has_item(word)
@@ -53,7 +60,8 @@ fn wrong_in_code(code: &str, sources: &Sources) -> Vec<String> {
             !word.contains(char::is_alphabetic) || has_file(word, sources)
         } else if let Some((of, name)) = word.split_once('.').filter(|(of, _)| is_name(of)) {
             let lower = of.starts_with(char::is_lowercase);
-            sources.has_member(of, name) || has_file(word, sources) || lower && word != code
+            let is_projection = word != code || OF_REFERENCES.contains(&name);
+            sources.has_member(of, name) || has_file(word, sources) || lower && is_projection
         } else {
             word != code || !is_name(word) || sources.has_word(word)
         }
@@ -62,6 +70,19 @@ fn wrong_in_code(code: &str, sources: &Sources) -> Vec<String> {
         .filter(|word| !word.is_empty() && !names_something(word))
         .map(str::to_string)
         .collect()
+}
+
+/// A path as definitions are imported by, without its first word: `machine.specs.Events`, alone or with a name of the module.
+fn has_module(path: &str, sources: &Sources) -> bool {
+    let [name, folder, module, ref member @ ..] =
+        path.split_terminator('.').collect::<Vec<_>>()[..]
+    else {
+        return false;
+    };
+    sources
+        .files
+        .contains(&Path::new("crates").join(name).join(folder).join(format!("{module}.antt")))
+        && member.iter().all(|member| sources.has_member(module, member))
 }
 
 /// `name` in `file`: the file has the name in it.

@@ -80,7 +80,9 @@ impl Sources {
     pub fn read() -> Self {
         let mut sources = Sources::default();
         for line in read("crates.txt").lines().filter(|line| !line.starts_with('#')) {
-            sources.crates.extend(line.split_once(':').map(|(name, _)| name.to_string()));
+            // after the name of a static library stands what it is
+            let name = line.split_once(':').and_then(|(name, _)| name.split_whitespace().next());
+            sources.crates.extend(name.map(str::to_string));
         }
         for path in files_below(&root()) {
             let path = path.strip_prefix(root()).expect("below the root").to_path_buf();
@@ -117,11 +119,14 @@ impl Sources {
             } else if let Some(name) = &type_open {
                 self.members.entry(name.clone()).or_default().extend(code_words(plain).next());
             }
-            if let Some((word, _)) = after(line, &["ensures", "requires", "{"]) {
-                ensures = word == "ensures";
+            let mut clause = line;
+            if let Some((word, rest)) = after(line, &["ensures ", "requires ", "{"]) {
+                ensures = word == "ensures ";
+                // a clause may have a name of its own, which cites nothing
+                clause = rest.split_once('{').map_or(rest, |(_, clause)| clause);
             }
             if ensures {
-                self.items.get_mut(&item).expect("a function").extend(definition_words(line));
+                self.items.get_mut(&item).expect("a function").extend(definition_words(clause));
             }
         }
     }
@@ -133,7 +138,7 @@ impl Sources {
         let mut current = None;
         for line in uncommented(text, "--") {
             self.words.extend(definition_words(line));
-            if after(line, &["use ", "pub mod "]).is_some() {
+            if after(line, &["use ", "pub use ", "mod ", "pub mod "]).is_some() {
                 continue;
             }
             if let Some(name) = declared(line) {

@@ -2,7 +2,7 @@
 
 use crate::sources::Sources;
 use std::collections::BTreeMap;
-use std::path::Path;
+use std::path::{Path, PathBuf};
 
 /// A row of a table: its cells by the names of their columns, and the number of its line.
 pub struct Row {
@@ -81,19 +81,29 @@ pub fn missing_proofs(cell: &str, home: &str, sources: &Sources) -> Vec<String> 
     missing
 }
 
+/// What a function's proof is written in, in the folder of its name: the answers to its goals with what its loops keep and
+/// what decreases, or the whole of it by hand.
+const PROOF_FILES: [&str; 3] = ["Answers.antt", "Invariants.antt", "Proof.antt"];
+
 /// A file of laws, or the proof of a function.
 fn has_proof(name: &str, item: &str, sources: &Sources) -> bool {
     let folder = Path::new("crates").join(name);
-    let file = if item.ends_with(".antt") { "" } else { "/Proof.antt" };
-    let paths = [format!("{item}{file}"), format!("proofs/{item}{file}")];
-    paths.iter().any(|path| sources.files.contains(&folder.join(path)))
+    let has = |path: &Path| sources.files.contains(path);
+    [folder.join(item), folder.join("proofs").join(item)].iter().any(|path| {
+        if item.ends_with(".antt") {
+            has(path)
+        } else {
+            PROOF_FILES.iter().any(|file| has(&path.join(file)))
+        }
+    })
 }
 
 fn is_proved_by_itself(name: &str, function: &str, sources: &Sources) -> bool {
     let folder = Path::new("crates").join(name).join("proofs");
-    let proof = Path::new(function).join("Proof.antt");
-    sources.has_item_in(name, function)
-        && !sources.files.iter().any(|file| file.starts_with(&folder) && file.ends_with(&proof))
+    let proofs = PROOF_FILES.map(|file| Path::new(function).join(file));
+    let is_proof =
+        |file: &PathBuf| file.starts_with(&folder) && proofs.iter().any(|it| file.ends_with(it));
+    sources.has_item_in(name, function) && !sources.files.iter().any(is_proof)
 }
 
 /// No contract speaks of these: names of numbers, examples, lists of calls, the program's files.
@@ -101,9 +111,9 @@ const NOT_PROMISED: [&str; 6] = [
     "Terms.",
     "Examples.",
     "Demand3.",
-    "Operations.sessionAfter",
-    "PrintedRun.printedRun",
-    "PrintedRun.printedScript",
+    "Operations.session_after",
+    "PrintedRun.printed_run",
+    "PrintedRun.printed_script",
 ];
 
 /// The contracts of a row that cite none of its definitions, and the definitions that none of its contracts cites.

@@ -11,7 +11,7 @@ use std::process::Command;
 use std::time::SystemTime;
 
 /// What `printed-run` takes from the path, beside `rt`, and what the script that plays `rt` takes.
-const TOOLS: [&str; 11] = [
+const TOOLS: [&str; 12] = [
     "bash",
     "cat",
     "chmod",
@@ -19,22 +19,27 @@ const TOOLS: [&str; 11] = [
     "find",
     "mkdir",
     "readlink",
+    "rm",
     "sha256sum",
     "sort",
     "tee",
     "xargs",
 ];
 
-/// Proves one crate, and makes a program that prints its document and says what stands in its script.
+/// Called in the crate's folder, proves one crate, and makes a program that prints its document and says what stands in its
+/// script; then runs the program there, where it fails.
 const RT: &str = r#"#!/bin/sh
-echo "$*" >>calls
-echo 'fn base::index_of: proved'
-echo 'rt: base proved (1 s)'
-if [ -e broken ]; then echo 'rt: machine NOT PROVED'; exit 1; fi
-echo 'rt: machine proved (unchanged since it was last proved)'
-mkdir -p target/bin
-printf '#!/bin/sh\ncat doc\ncat script >&2\n' >target/bin/printed_run
-chmod +x target/bin/printed_run
+echo "$*" >>../../calls
+echo 'fn base::index_of: proved' >&2
+echo 'crate base: modules loaded=0 checked=12' >&2
+echo 'logic=proved functions=1' >&2
+echo 'crate machine: modules loaded=12 checked=0' >&2
+if [ -e ../../broken ]; then echo 'logic=not-proved' >&2; echo 'rt: machine NOT PROVED' >&2; exit 1; fi
+echo 'logic=proved functions=1' >&2
+mkdir -p out
+printf '#!/bin/sh\ncat doc\ncat script >&2\n' >out/printed_run
+chmod +x out/printed_run
+out/printed_run
 "#;
 
 struct Repository(Folder);
@@ -45,6 +50,7 @@ impl Repository {
         fs::copy(root().join("printed-run"), folder.path("printed-run")).expect("printed-run");
         folder.write("crates.txt", "base:\n");
         folder.write("crates/base/src/lib.rt", "// code\n");
+        folder.write("crates/printed_run/src/main.rt", "// code\n");
         folder.write("reel/doc", "printed\n");
         folder.write("reel/script", "");
         folder.write_program("bin/rt", RT);
@@ -109,7 +115,7 @@ fn later_runs_start_at_once() {
     let _alone = alone();
     let repository = Repository::new();
     assert_eq!(repository.run(&["reel"]), said(0, "printed\n", PROGRESS));
-    assert_eq!(fs::read_to_string(repository.0.path("calls")).unwrap(), "check printed_run\n");
+    assert_eq!(fs::read_to_string(repository.0.path("calls")).unwrap(), "run\n");
     let again = said(0, "printed\n", "");
     assert_eq!(repository.run(&["reel"]), again);
     let touched = fs::File::options().append(true).open(repository.0.path("crates.txt")).unwrap();
@@ -147,7 +153,7 @@ fn changed_sources_and_another_program_are_proved_once_more() {
     repository.0.write("crates/base/src/new.rt", "");
     assert_eq!(repository.run(&["reel"]), said(0, "printed\n", PROGRESS));
     // a program that was made from other sources
-    repository.0.write("target/bin/printed_run", "#!/bin/sh\necho other");
+    repository.0.write("crates/printed_run/out/printed_run", "#!/bin/sh\necho other");
     assert_eq!(repository.run(&["reel"]), said(0, "printed\n", PROGRESS));
     assert_eq!(repository.run(&["reel"]), said(0, "printed\n", ""));
     assert_eq!(repository.calls(), 4);

@@ -1,1 +1,2 @@
 mod ChainLaws
+pub mod Begins

@@ -46,6 +46,7 @@ fn run_actions(d: Document, w: Work, log: &mut [u8], l: usize) -> Work
 }
 
 // What a firing of link l does before its actions: it is logged and counted, unless the limit is used up.
+#[tactic(auto, using(crate::proofs::Begins::begins_below, crate::proofs::Begins::begins_full))]
 fn begin_firing(w: Work, log: &mut [u8], limit: u8, l: usize) -> Work
     requires { l < 64 }
     ensures { run result log.new ≡ firing_begun limit l (run w log.old) }

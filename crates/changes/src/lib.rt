@@ -44,6 +44,7 @@ pub fn count_after(change: u8, count: u32) -> u32
 }
 
 // The clock after a transition.
+#[tactic(auto, using(crate::proofs::Clocks::clock_zero, crate::proofs::Clocks::clock_kept))]
 pub fn clock_after(change: u8, clock: u16) -> u16
     ensures { result ≡ clocked change clock }
 {

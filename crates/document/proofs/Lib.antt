@@ -1,3 +1,4 @@
 pub mod Room
 mod Places
 mod Records
+pub mod Heads

@@ -208,6 +208,7 @@ pub fn check_record(d: Document, r: Record) -> Check
 
 // ---- its place
 
+#[tactic(auto, using(crate::proofs::Heads::head_later, crate::proofs::Heads::head_unlimited, crate::proofs::Heads::head_right))]
 fn check_head(d: Document, limit: u8) -> Check
     ensures { check_number result ≡ head_fault d limit }
 {

@@ -18,6 +18,7 @@ pub enum Start {
 }
 
 // What is found at a node of this type and state, if it is reached.
+#[tactic(auto, using(crate::proofs::Starts::found_unreached, crate::proofs::Starts::found_awake, crate::proofs::Starts::found_media, crate::proofs::Starts::found_context, crate::proofs::Starts::found_switch))]
 pub fn start_of(reached: bool, node_type: u8, state: u8) -> Start
     ensures { result ≡ start_of reached node_type state }
 {

@@ -1,6 +1,7 @@
 -- Tests on numbers, and a choice by a test.
 use Rattle.std.specs.Prelude.{Bool, true, false, not, ◌&&◌, ◌||◌, ◌⊎◌, ◌≡◌, refl, ℕ, ◌<◌, eqb, ltb, leb, ℤ, pos, negsuc}
 use Rattle.std.proofs.lemmas.Bool.{false≢true}
+use Rattle.std.proofs.lemmas.Bool.Decides.{nat_tests}
 use Rattle.std.proofs.Common.{inl, inr, arith}
 
 infix 50 ◌=?◌ ◌<?◌ ◌≤?◌
@@ -25,6 +26,24 @@ infixr 4 when◌then◌else◌
 unfoldable pub when◌then◌else◌ : {A : Type 0} → Bool → A → A → A
 when true then a else b = a
 when false then a else b = b
+
+-- the two cases of a choice, as `grind` takes them; and a choice whose test is known
+pub when_tells : {A : Type 0} (b : Bool) (x y : A) → ((b ≡ true) × ((when b then x else y) ≡ x)) ⊎ ((b ≡ false) × ((when b then x else y) ≡ y))
+unfolding when◌then◌else◌
+when_tells true x y = inl (refl, refl)
+when_tells false x y = inr (refl, refl)
+
+module _ {A : Type 0} (x y : A) where
+  pub when_true : (b : Bool) → b ≡ true → (when b then x else y) ≡ x
+  unfolding when◌then◌else◌
+  when_true b e = rw e
+
+  pub when_false : (b : Bool) → b ≡ false → (when b then x else y) ≡ y
+  unfolding when◌then◌else◌
+  when_false b e = rw e
+
+-- tests on numbers and choices by a test
+pub ruleset tests = (when_tells, nat_tests)
 
 -- the two cases of a test, each with its equation
 pub by_test : {P : Type 0} (b : Bool) → (b ≡ true → P) → (b ≡ false → P) → P

@@ -1,15 +1,18 @@
 -- Laws of the lines in a slice: one more goes along with `logged`, a line read back is a group of bytes, and the lines are the bytes written.
-use Prim.Native.Nat.{ℕ, zero, suc, ◌+◌, ◌-◌, ◌*◌, ◌/◌, ◌<◌, ◌≤◌}
+use Prim.Native.Nat.{ℕ, zero, suc, ◌+◌, ◌-◌, ◌*◌, ◌/◌, ◌<◌, ◌≤◌, min}
 use native.Mathlib.Omega.{arith}
 use native.Mathlib.Numerals.{add-one}
-use mathlib.Core.List.{List, [], ◌∷◌, ◌++◌, append_assoc, append-nil}
-use mathlib.Core.Logic.{◌≢◌}
-use mathlib.Core.Path.{◌≡◌, refl, sym, ap, ◌∙◌}
-use lib.ListN.{length, length-set, length-append, get_or, set, take, replicate, replicate-append-replicate, get_or-append}
-use lib.Seq.{get_or-set_same, get_or-set_other, take-suc, take-suc-set, take_all, get_or_at}
+use mathlib.Core.List.{List, [], ◌∷◌, ◌++◌, append_assoc}
+use mathlib.Core.Path.{◌≡◌, refl, ◌∙◌}
+use lib.ListN.{length, length-append, get_or, take, replicate, get_or-append}
+use lib.Seq.{take-suc, get_or_at}
 use lib.Dec.{ltb}
+use borrow.Rule.Slice.PartMut.{put_mid}
+use Rattle.std.proofs.Common.{rules}
+use Rattle.std.proofs.lemmas.Slice.{overwrites}
+use Rattle.std.proofs.lemmas.List.{places}
 use borrow.Author.Tests.{lt-ltb, le-ltb, ltb-true, ltb-false}
-use Rattle.base.specs.Tests.{when◌then◌else◌, by_test, ◌<?◌}
+use Rattle.base.specs.Tests.{when◌then◌else◌, by_test}
 use Rattle.machine.specs.Log.{line, met, logged, bytes_of, slice_with}
 use Rattle.machine.specs.declared.Line.{Line}
 use Rattle.call_log.specs.LogSlice.{group, groups, lines_in, in_slice}
@@ -19,61 +22,33 @@ unfolding groups
 groups_length b zero = refl
 groups_length b (suc n) = length-append (groups b n) (group b n ∷ []) ∙ omega (arith, groups_length b n)
 
--- the 4 stores of a line at place p
-abbrev stored : List ℕ → ℕ → ℕ → ℕ → ℕ → List ℕ
-stored b p class id transition = set (set (set (set b p class) (p + 1) id) (p + 2) transition) (p + 3) 0
+-- 4 bytes written at place p
+abbrev stored : List ℕ → ℕ → List ℕ → List ℕ
+stored b p bytes = put_mid p (p + 4 - p) b bytes
 
-stored_length : (b : List ℕ) (p c i t : ℕ) → length (stored b p c i t) ≡ length b
-stored_length b p c i t = simp length-set
+module _ (b : List ℕ) (p : ℕ) (bytes : List ℕ) (h : p + 3 < length b) (four : length bytes ≡ 4) where
+  stored_length : length (stored b p bytes) ≡ length b
+  stored_length = grind (arith, overwrites)
 
--- what stands before a line's stores stays, and its bytes are read back
-module _ (b : List ℕ) (p c i t : ℕ) where
-  stored_before : (q : ℕ) → q < p → get_or (stored b p c i t) q 0 ≡ get_or b q 0
-  stored_before q h =
-      let e0 : q ≢ p = λ e. omega arith in
-      let e1 : q ≢ p + 1 = λ e. omega arith in
-      let e2 : q ≢ p + 2 = λ e. omega arith in
-      let e3 : q ≢ p + 3 = λ e. omega arith in
-      simp get_or-set_other
+  -- what stands before them stays, and they are read back
+  stored_before : (q : ℕ) → q < p → get_or (stored b p bytes) q 0 ≡ get_or b q 0
+  stored_before q l = search (rules, places)
 
-  module _ (h : p + 3 < length b) where
-    class_at : get_or (stored b p c i t) p 0 ≡ c
-    class_at =
-        let e1 : p ≢ p + 1 = λ e. omega arith in
-        let e2 : p ≢ p + 2 = λ e. omega arith in
-        let e3 : p ≢ p + 3 = λ e. omega arith in
-        let l : p < length b = omega arith in
-        simp (get_or-set_other, get_or-set_same)
-
-    id_at : get_or (stored b p c i t) (p + 1) 0 ≡ i
-    id_at =
-        let e2 : p + 1 ≢ p + 2 = λ e. omega arith in
-        let e3 : p + 1 ≢ p + 3 = λ e. omega arith in
-        let l : p + 1 < length (set b p c) = simp length-set (omega arith) in
-        simp (get_or-set_other, get_or-set_same)
-
-    transition_at : get_or (stored b p c i t) (p + 2) 0 ≡ t
-    transition_at =
-        let e3 : p + 2 ≢ p + 3 = λ e. omega arith in
-        let l : p + 2 < length (set (set b p c) (p + 1) i) = simp length-set (omega arith) in
-        simp (get_or-set_other, get_or-set_same)
-
-    zero_at : get_or (stored b p c i t) (p + 3) 0 ≡ 0
-    zero_at =
-        let l : p + 3 < length (set (set (set b p c) (p + 1) i) (p + 2) t) = simp length-set (omega arith) in
-        simp get_or-set_same
+  stored_at : (q j : ℕ) → q ≡ p + j → j < 4 → get_or (stored b p bytes) q 0 ≡ get_or bytes j 0
+  stored_at q j e l = search (rules, places)
 
 -- groups before a line's place stay
-groups_before : (b : List ℕ) (at c i t k : ℕ) → k ≤ at → groups (stored b (4 * at) c i t) k ≡ groups b k
+groups_before : (b : List ℕ) (at : ℕ) (bytes : List ℕ) (k : ℕ) → 4 * at + 3 < length b → length bytes ≡ 4 → k ≤ at → groups (stored b (4 * at) bytes) k ≡ groups b k
 unfolding groups
-groups_before b at c i t zero h = refl
-groups_before b at c i t (suc k) h =
+groups_before b at bytes zero l four h = refl
+groups_before b at bytes (suc k) l four h =
+    let before = stored_before b (4 * at) bytes l four in
     rw (
-      stored_before b (4 * at) c i t (4 * k) (omega arith),
-      stored_before b (4 * at) c i t (4 * k + 1) (omega arith),
-      stored_before b (4 * at) c i t (4 * k + 2) (omega arith),
-      stored_before b (4 * at) c i t (4 * k + 3) (omega arith),
-      groups_before b at c i t k (omega arith),
+      before (4 * k) (omega arith),
+      before (4 * k + 1) (omega arith),
+      before (4 * k + 2) (omega arith),
+      before (4 * k + 3) (omega arith),
+      groups_before b at bytes k l four (omega arith),
     )
 
 -- lines for which there is room
@@ -103,22 +78,26 @@ lines_lack b n k h l = rw (lines_length b n (omega arith)) h
 
 -- one line more, where it fits and where not
 module _ (b : List ℕ) (n stop c i t : ℕ) where
-  pub logged_fits : n < length b / 4 → in_slice (stored b (4 * n) c i t) (n + 1) stop ≡ logged (line c i t) (in_slice b n stop)
+  pub logged_fits : (bytes : List ℕ) → n < length b / 4 → bytes ≡ c ∷ i ∷ t ∷ 0 ∷ [] → in_slice (stored b (4 * n) bytes) (n + 1) stop ≡ logged (line c i t) (in_slice b n stop)
   unfolding logged when◌then◌else◌ groups
-  logged_fits h =
-      let s : length (stored b (4 * n) c i t) ≡ length b = stored_length b (4 * n) c i t in
+  logged_fits bytes h is =
+      let l : 4 * n + 3 < length b = omega arith in
+      let four : length bytes ≡ 4 = rw is in
+      let s : length (stored b (4 * n) bytes) ≡ length b = stored_length b (4 * n) bytes l four in
+      let at = stored_at b (4 * n) bytes l four in
       rw (
-        lines_room (stored b (4 * n) c i t) (n + 1) (omega arith),
+        lines_room (stored b (4 * n) bytes) (n + 1) (omega arith),
         lines_room b n (omega arith),
         groups_length b n,
         lt-ltb n (length b / 4) h,
         s,
         add-one n,
-        groups_before b n c i t n (omega arith),
-        class_at b (4 * n) c i t (omega arith),
-        id_at b (4 * n) c i t (omega arith),
-        transition_at b (4 * n) c i t (omega arith),
-        zero_at b (4 * n) c i t (omega arith),
+        groups_before b n bytes n l four (omega arith),
+        at (4 * n) 0 (omega arith) (omega arith),
+        at (4 * n + 1) 1 (omega arith) (omega arith),
+        at (4 * n + 2) 2 (omega arith) (omega arith),
+        at (4 * n + 3) 3 (omega arith) (omega arith),
+        is,
       )
 
   pub logged_full : length b / 4 ≤ n → met 12 (in_slice b n stop) ≡ logged (line c i t) (in_slice b n stop)
@@ -166,30 +145,16 @@ groups_bytes b (suc n) h =
     let e : 4 * suc n ≡ 4 * n + 4 = omega arith in
     bytes_of_append (groups b n) (group b n ∷ []) ∙ rw (groups_bytes b n (omega arith), e, take_four b (4 * n) (omega arith))
 
--- ---- clearing what follows the lines: from m on, at place p
+-- ---- zeros after the lines
 
-pub Cleared : List ℕ → ℕ → List ℕ → ℕ → Type 0
-Cleared b m x p = take p x ≡ take m b ++ replicate (p - m) 0
+-- what is put in the place of all from a on
+put_rest : (b : List ℕ) (a : ℕ) (zeros : List ℕ) → put_mid a (length b - a) b zeros ≡ take a b ++ zeros
+put_rest b a zeros = search (rules, overwrites)
 
-pub clear_none : (b : List ℕ) (m : ℕ) → Cleared b m b m
-unfolding Cleared
-clear_none b m =
-    let e : m - m ≡ 0 = omega arith in
-    rw (e, append-nil)
-
-pub clear_more : (b : List ℕ) (m : ℕ) (x : List ℕ) (p : ℕ) → m ≤ p → p < length x → Cleared b m x p → Cleared b m (set x p 0) (p + 1)
-unfolding Cleared
-clear_more b m x p h l c =
-    let e : p + 1 - m ≡ (p - m) + 1 = omega arith in
-    rw (e, add-one p)
-    (take-suc-set x p 0 l
-    ∙ rw c (append_assoc (take m b) (replicate (p - m) 0) (0 ∷ []) ∙ ap (λ (r : List ℕ). take m b ++ r) (replicate-append-replicate (p - m) 1 0)))
-
-pub clear_done : (b : List ℕ) (n : ℕ) (x : List ℕ) (p : ℕ) → length x ≡ length b → p ≡ length b
-    → Cleared b (4 * (when length b / 4 <? n then length b / 4 else n)) x p → x ≡ slice_with (lines_in b n) (length b)
-unfolding Cleared slice_with lines_in when◌then◌else◌
-clear_done b n x p l e c =
-    sym (take_all p x (omega arith)) ∙ c
-    ∙ by_test (ltb (length b / 4) n)
-    (λ f. rw (f, e, groups_bytes b (length b / 4) (omega arith), groups_length b (length b / 4)))
-    (λ f. rw (f, e, groups_bytes b n (omega (arith, ltb-false (length b / 4) n f)), groups_length b n))
+pub clear_done : (b : List ℕ) (n m : ℕ) (zeros : List ℕ) → m ≡ min n (length b / 4) → zeros ≡ replicate (length b - 4 * m) 0
+    → put_mid (4 * m) (length b - 4 * m) b zeros ≡ slice_with (lines_in b n) (length b)
+unfolding slice_with lines_in when◌then◌else◌
+clear_done b n m zeros e z =
+    by_test (ltb (length b / 4) n)
+    (λ f. let q : m ≡ length b / 4 = omega (arith, ltb-true (length b / 4) n f) in rw (f, z, q, groups_bytes b (length b / 4) (omega arith), groups_length b (length b / 4)) (put_rest b _ _))
+    (λ f. let q : m ≡ n = omega (arith, ltb-false (length b / 4) n f) in rw (f, z, q, groups_bytes b n (omega (arith, ltb-false (length b / 4) n f)), groups_length b n) (put_rest b _ _))

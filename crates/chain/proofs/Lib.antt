@@ -1,2 +1,2 @@
-mod ChainLaws
+pub mod ChainLaws
 pub mod Begins

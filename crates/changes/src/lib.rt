@@ -1,6 +1,6 @@
 // A change of state: its transition, and the count and the clock after it; which anchors follow their media, and whether the
 // media's line goes before theirs.
-#![tactic(auto)]
+#![tactic(auto, using(base::specs::Tests::when_true, base::specs::Tests::when_false), unfolding(machine::specs::Events::transition, machine::specs::Events::counted, machine::specs::Events::clocked, machine::specs::Events::begins_at, machine::specs::Events::ends_at, machine::specs::Events::is_awake, machine::specs::Events::line_first, machine::specs::Events::follows))]
 
 ghost use Rattle.std.specs.Prelude.{◌≡◌, ◌&&◌};
 ghost use Rattle.base.specs.Tests.{when◌then◌else◌, ◌=?◌};
@@ -8,53 +8,41 @@ ghost use Rattle.machine.specs.Terms.{no_transition};
 ghost use Rattle.machine.specs.Events.{transition, counted, clocked, follows, line_first};
 ghost use Rattle.changes.specs.Moves.{moves};
 
-use base::index_of;
-use machine::terms;
+use machine::{AnchorRecord, terms};
 
-// The transition from a state to another.
+// The transition from a state to another: a number, 0 for none, as it goes into the log.
 pub fn transition_of(aborting: bool, old: u8, new: u8) -> u8
     ensures { result ≡ transition aborting old new }
 {
-    if old == new {
-        return terms::NO_TRANSITION;
+    match (old, new) {
+        _ if old == new => terms::NO_TRANSITION,
+        (_, terms::SLEEPING) if aborting => terms::ABORTS,
+        (_, terms::SLEEPING) => terms::STOPS,
+        (terms::SLEEPING, _) => terms::STARTS,
+        (_, terms::OCCURRING) => terms::RESUMES,
+        _ => terms::PAUSES,
     }
-    if new == terms::SLEEPING {
-        if aborting {
-            return terms::ABORTS;
-        }
-        return terms::STOPS;
-    }
-    if old == terms::SLEEPING {
-        return terms::STARTS;
-    }
-    if new == terms::OCCURRING {
-        return terms::RESUMES;
-    }
-    terms::PAUSES
 }
 
-// The occurrence count after a transition.
+// The occurrence count after a transition. A transition is 01's number: a type for the six would take fewer numbers than the callers have.
 pub fn count_after(change: u8, count: u32) -> u32
     ensures { result ≡ counted change count }
 {
     if change == terms::STOPS {
-        return std::num::wrapping_add_u32(count, 1);
+        count.wrapping_add(1)
+    } else {
+        count
     }
-    count
 }
 
-// The clock after a transition.
-#[tactic(auto, using(crate::proofs::Clocks::clock_zero, crate::proofs::Clocks::clock_kept))]
+// The clock after a transition, by its number, as above.
 pub fn clock_after(change: u8, clock: u16) -> u16
     ensures { result ≡ clocked change clock }
 {
-    if change <= terms::ABORTS {
-        return 0;
-    }
-    clock
+    if change <= terms::ABORTS { 0 } else { clock }
 }
 
-// Which anchors of a media move: those that begin at a clock, those awake that end at it, those awake.
+// Which anchors of a media move, as data, since a closure that is made here could not be handed out: those that begin at a clock, those awake that end at it, those awake.
 #[derive(Clone, Copy)]
 pub enum Moving {
     BeginningAt(u16),
@@ -62,48 +50,43 @@ pub enum Moving {
     Awake,
 }
 
-// Whether an anchor moves.
-fn moves(moving: Moving, begin: u16, end: u16, state: u8) -> bool
-    ensures { result ≡ moves moving begin end state }
-{
-    match moving {
-        Moving::BeginningAt(clock) => begin == clock,
-        Moving::EndingAt(clock) => (state != terms::SLEEPING) & (end == clock),
-        Moving::Awake => state != terms::SLEEPING,
+impl Moving {
+    // Whether an anchor moves.
+    fn moves(self, begin: u16, end: u16, state: u8) -> bool
+        ensures { result ≡ moves self begin end state }
+    {
+        match self {
+            Moving::BeginningAt(clock) => begin == clock,
+            Moving::EndingAt(clock) => state != terms::SLEEPING && end == clock,
+            Moving::Awake => state != terms::SLEEPING,
+        }
     }
 }
 
-// The transition of an anchor of a media to the new state; none if it is not one of media n that move.
+// The transition of an anchor in a state to the new one; none if it is not one of media n that move.
 pub fn anchor_transition(
     moving: Moving,
     aborting: bool,
     n: usize,
-    media: u8,
-    begin: u16,
-    end: u16,
+    anchor: AnchorRecord,
     state: u8,
     new: u8,
 ) -> u8
-    ensures { result ≡ (when media =? n && moves moving begin end state
+    ensures { result ≡ (when anchor.media =? n && moves moving anchor.begin anchor.end state
         then transition aborting state new else no_transition) }
 {
-    if index_of(media) != n {
-        return terms::NO_TRANSITION;
+    if usize::from(anchor.media) == n && moving.moves(anchor.begin, anchor.end, state) {
+        transition_of(aborting, state, new)
+    } else {
+        terms::NO_TRANSITION
     }
-    if moves(moving, begin, end, state) {
-        return transition_of(aborting, state, new);
-    }
-    terms::NO_TRANSITION
 }
 
 // Whether the media's line goes before those of its anchors.
 pub fn line_first(action: u8) -> bool
     ensures { result ≡ line_first action }
 {
-    if action == terms::TO_START {
-        return true;
-    }
-    action == terms::TO_RESUME
+    matches!(action, terms::TO_START | terms::TO_RESUME)
 }
 
 // The anchors that follow their media in an action.
@@ -111,7 +94,8 @@ pub fn following(action: u8) -> Moving
     ensures { moves result ≡ follows action }
 {
     if action == terms::TO_START {
-        return Moving::BeginningAt(0);
+        Moving::BeginningAt(0)
+    } else {
+        Moving::Awake
     }
-    Moving::Awake
 }

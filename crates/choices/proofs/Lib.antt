@@ -1,2 +1,1 @@
-mod Prelude
 pub mod PathLaws

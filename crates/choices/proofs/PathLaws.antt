@@ -1,10 +1,8 @@
 -- Laws of the walk up a path: its end, one step, and what it finds where no switch has chosen.
-use mathlib.Core.Path.{◌≡◌, refl, sym, ◌∙◌}
-use mathlib.Core.Bool.{Bool, true, ◌&&◌, or-false, true≢false}
-use Prim.Native.Nat.{ℕ, zero, suc, ◌≤◌, ◌<◌}
-use native.Mathlib.Omega.{arith}
-use borrow.Author.Tests.{eqb-false, eq-eqb, ne_eqb}
-use lib.ListN.{replicate}
+use Rattle.std.specs.Prelude.{Bool, true, ◌&&◌, ◌≡◌, refl, ℕ, zero, suc, ◌<◌, ◌≤◌, replicate}
+use Rattle.std.proofs.Common.{sym, ◌∙◌, arith, eq-eqb, ne_eqb}
+use Rattle.std.proofs.Math.Bool.{or-false}
+use Rattle.std.proofs.lemmas.Bool.{eqb-false, false≢true}
 use Rattle.base.specs.Tests.{when◌then◌else◌, ◌=?◌, by_test}
 use Rattle.base.specs.Marks.{zero_at}
 use Rattle.machine.specs.Tables.{parent_of}
@@ -51,7 +49,7 @@ path_unchosen nodes n =
     (λ e. by_test (path_chosen nodes (replicate 64 0) n)
     (λ f.
     let none = weaker_up nodes _ _ (λ k h t. rw (zero_at 64 (parent_of nodes k), ne_eqb 0 k (λ q. omega arith), or-false) at t) n n f in
-    absurd (true≢false (sym none ∙ e)))
+    absurd (false≢true (sym e ∙ none)))
     (λ f. f ∙ sym e))
 
 -- what `path_chosen` asks, in sound tables

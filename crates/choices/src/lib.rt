@@ -5,12 +5,10 @@ ghost use Rattle.std.specs.Prelude.{◌≡◌, not, ◌&&◌, ◌||◌, ◌<◌,
 ghost use Rattle.base.specs.Tests.{◌=?◌, ◌<?◌};
 ghost use Rattle.machine.specs.Terms.{switch};
 ghost use Rattle.machine.specs.Owners.{path_chosen};
-ghost use Rattle.machine.specs.Broken.{choices_right};
-ghost use Rattle.machine.specs.declared.Nodes.{Nodes};
+ghost use Rattle.machine.specs.Broken.{choice_right, choices_right};
 ghost use Rattle.choices.specs.Parents.{Earlier};
 
-use base::index_of;
-use machine::terms;
+use machine::{Nodes, terms};
 
 // A child of a node of this type, with this choice: the node is no switch, or chose the child.
 fn is_chosen(parent_type: u8, choice: usize, child: usize) -> bool
@@ -19,63 +17,44 @@ fn is_chosen(parent_type: u8, choice: usize, child: usize) -> bool
     (parent_type != terms::SWITCH) | (choice == child)
 }
 
-// Whether every switch above the owner chose the child on the path.
-pub fn path_chosen<'a>(
-    types: &'a [u8; 64],
-    parents: &'a [u8; 64],
-    choices: &'a [u8; 64],
-    owner: usize,
-) -> bool
-    requires { (owner < 64) × Earlier parents.now owner }
-    ensures { (nodes : Nodes)
-        → nodes.types ≡ types.now
-        → nodes.parents ≡ parents.now
-        → result ≡ path_chosen nodes choices.now owner }
+// Whether every switch above the owner chose the child on the path. A walk by parents has no index to count: a `while`.
+#[tactic(auto, using(crate::proofs::PathLaws::path_ends), unfolding(machine::specs::Owners::path_chosen, machine::specs::Owners::is_chosen))]
+pub fn path_chosen(nodes: &Nodes, choices: &[u8; 64], owner: usize) -> bool
+    requires { (owner < 64) × Earlier nodes.now.parents owner }
+    ensures { result ≡ path_chosen nodes.now choices.now owner }
 {
     let mut chosen = true;
-    let mut k = owner;
-    while 0 < k {
-        let child = k;
-        k = index_of(parents[child]);
-        chosen = chosen & is_chosen(types[k], index_of(choices[k]), child);
+    let mut node = owner;
+    while 0 < node {
+        let child = node;
+        node = usize::from(nodes.parents[child]);
+        chosen &= is_chosen(nodes.types[node], usize::from(choices[node]), child);
     }
     chosen
 }
 
-// The choice c of node n of this type, among so many nodes: none, or a child of a switch.
-fn choice_right(count: usize, node_type: u8, parents: &[u8; 64], n: usize, c: usize) -> bool
-    requires { count ≤ 64 }
-    ensures { result ≡ c =? 0 || n <? count && node_type =? switch && c <? count && get_or parents.now c 0 =? n }
+// The choice c of node n: none, or a child of a switch.
+#[tactic(auto, unfolding(machine::specs::Broken::choice_right))]
+fn choice_right(nodes: &Nodes, n: usize, c: usize) -> bool
+    requires { nodes.now.count ≤ 64 }
+    ensures { result ≡ choice_right nodes.now n c }
 {
-    if c == 0 {
-        return true;
-    }
-    if count <= c {
-        return false;
-    }
-    (n < count) & (node_type == terms::SWITCH) & (index_of(parents[c]) == n)
+    c == 0
+        || (n < nodes.count
+            && nodes.types[n] == terms::SWITCH
+            && c < nodes.count
+            && usize::from(nodes.parents[c]) == n)
 }
 
-// Of all places, those too that have no node.
-pub fn choices_right<'a>(
-    count: usize,
-    types: &'a [u8; 64],
-    parents: &'a [u8; 64],
-    choices: &'a [u8; 64],
-) -> bool
-    requires { count ≤ 64 }
-    ensures { (nodes : Nodes)
-        → nodes.count ≡ count
-        → nodes.types ≡ types.now
-        → nodes.parents ≡ parents.now
-        → result ≡ choices_right nodes choices.now }
+// Of all places, those too that have no node. (`all` over the range was tried: its proof did not close.)
+#[tactic(auto, unfolding(machine::specs::Broken::choices_right, base::specs::Loops::every))]
+pub fn choices_right(nodes: &Nodes, choices: &[u8; 64]) -> bool
+    requires { nodes.now.count ≤ 64 }
+    ensures { result ≡ choices_right nodes.now choices.now }
 {
     let mut right = true;
-    let mut next = 0;
-    while next < 64 {
-        let n = next;
-        next += 1;
-        right = right & choice_right(count, types[n], parents, n, index_of(choices[n]));
+    for n in 0..64 {
+        right &= choice_right(nodes, n, usize::from(choices[n]));
     }
     right
 }

@@ -7,6 +7,7 @@ use native.Mathlib.Nat.{sub-zero}
 use native.Mathlib.Omega.{arith}
 use borrow.Author.Tests.{eqb-true, eqb-false, lt-ltb, le-ltb}
 use lib.IntN.{ℤ}
+use Rattle.std.specs.Prelude.{Option}
 use lib.ListN.{length, length-set, get_or, set}
 use Rattle.base.specs.Tests.{when◌then◌else◌, by_test, ◌=?◌, ◌<?◌}
 use Rattle.base.specs.Loops.{first}
@@ -65,8 +66,8 @@ module _ (binds : Binds) (rules : Rules) (values : List ℤ) where
 
   -- bind b was decided: whether it is of a switch and holds, and what is known then
   module _ (sound : SoundRules 32 rules) (b : ℕ) (below : ((bind_at binds b).rule ≡ no_id → ⊥) → (bind_at binds b).rule < rules.count)
-      {known after : List ℕ} {holds : Bool} (k : Known rules values rules.count known)
-      (decided : BindDecided rules.operators rules.lefts rules.rights known (bind_at binds b).rule holds after) where
+      {known after : List (Option Bool)} {holds : Bool} (k : Known rules values rules.count known)
+      (decided : BindDecided rules known (bind_at binds b).rule holds after) where
     pub bind_decided : ((n : ℕ) → bind_holds binds rules values n b ≡ ((bind_at binds b).switch =? n && holds)) × Known rules values rules.count after
     unfolding bind_holds
     bind_decided =

@@ -1,5 +1,5 @@
 -- The child that a switch finds.
-use Rattle.std.specs.Prelude.{ℕ, ◌-◌, ◌≤◌, ◌<◌, Bool, false, List, ◌≡◌, ℤ, length, get_or}
+use Rattle.std.specs.Prelude.{ℕ, ◌-◌, ◌≤◌, ◌<◌, Bool, false, List, ◌≡◌, ℤ, length, get_or, Option}
 use Rattle.base.specs.Tests.{when◌then◌else◌, ◌<?◌}
 use Rattle.base.specs.Loops.{first}
 use Rattle.machine.specs.Terms.{no_id}
@@ -42,6 +42,6 @@ pub record SoundBinds (binds : Binds) (rules : Rules) : Type 0 where
   pub rule : (b : ℕ) → b < binds.count → ((bind_at binds b).rule ≡ no_id → ⊥) → (bind_at binds b).rule < rules.count
 
 -- the rule of a bind was decided, from what is known of the rules; the default has none
-pub record BindDecided (operators lefts rights known : List ℕ) (rule : ℕ) (holds : Bool) (after : List ℕ) : Type 0 where
+pub record BindDecided (rules : Rules) (known : List (Option Bool)) (rule : ℕ) (holds : Bool) (after : List (Option Bool)) : Type 0 where
   pub default : rule ≡ no_id → (holds ≡ false) × (after ≡ known)
-  pub ruled : (rule ≡ no_id → ⊥) → Decided operators lefts rights known rule holds after
+  pub ruled : (rule ≡ no_id → ⊥) → Decided rules known rule holds after

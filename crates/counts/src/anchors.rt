@@ -1,97 +1,78 @@
-// The conditions on the anchors of a media.
-ghost use Rattle.std.specs.Prelude.{◌≡◌, not, ◌||◌, ℕ, ◌<◌, ◌≤◌};
-ghost use Rattle.base.specs.Tests.{◌=?◌, ◌≤?◌};
+// The conditions on the anchors of a media. No branch in the loops that ask every anchor, so that many are looked at at once; `has_anchor`
+// searches by a `for`, as `document::checking` does.
+ghost use Rattle.std.specs.Prelude.{◌≡◌, ℕ, ◌<◌};
 ghost use Rattle.base.specs.Marks.{Numbered};
-ghost use Rattle.machine.specs.Counts.{is_count_link_of, has_anchor, apart_from_earlier, disjoint, each_has_one_link};
-ghost use Rattle.machine.specs.declared.Document.{Document};
+ghost use Rattle.machine.specs.Counts.{is_anchor_of, is_count_link_of, has_anchor, apart, apart_from_earlier, disjoint, each_has_one_link};
 
 use machine::Anchors;
+use machine::sound::SoundDocument;
 
-pub fn has_anchor(anchors: Anchors, m: u8) -> bool
-    requires { anchors.count ≤ 128 }
-    ensures { result ≡ has_anchor anchors m }
+// Anchor a is given, and of media m.
+#[tactic(auto, unfolding(machine::specs::Counts::is_anchor_of))]
+pub fn is_anchor_of(d: &SoundDocument, m: u8, a: usize) -> bool
+    ensures { result ≡ is_anchor_of d.now.document.anchors m a }
 {
-    let count = anchors.count;
-    let mut next = 0;
-    while next < count {
-        let a = next;
-        next += 1;
-        if anchors.media[a] == m {
+    let anchors = &d.document.anchors;
+    a < anchors.count && anchors.media[a] == m
+}
+
+#[tactic(auto, using(base::specs::Loops::one_some), unfolding(base::specs::Loops::some, machine::specs::Counts::has_anchor))]
+pub fn has_anchor(d: &SoundDocument, m: u8) -> bool
+    ensures { result ≡ has_anchor d.now.document.anchors m }
+{
+    for a in 0..d.document.anchors.count {
+        if is_anchor_of(d, m, a) {
             return true;
         }
     }
     false
 }
 
-// An anchor of another media, or one that ends at or before the begin of the other, or the other way.
-fn is_apart(media: u8, begin: u16, end: u16, m: u8, other_begin: u16, other_end: u16) -> bool
-    ensures { result ≡ not (media =? m) || (end ≤? other_begin || other_end ≤? begin) }
+// One ends at or before the begin of the other.
+#[tactic(auto, unfolding(machine::specs::Counts::apart))]
+fn is_apart(anchors: &Anchors, a: usize, b: usize) -> bool
+    requires { (a < 128) × (b < 128) }
+    ensures { result ≡ apart anchors.now a b }
 {
-    (media != m) | ((end <= other_begin) | (other_end <= begin))
+    (anchors.ends[a] <= anchors.begins[b]) | (anchors.ends[b] <= anchors.begins[a])
 }
 
-fn apart_from_earlier(
-    media: &[u8; 128],
-    begins: &[u16; 128],
-    ends: &[u16; 128],
-    m: u8,
-    b: usize,
-) -> bool
+#[tactic(auto, unfolding(base::specs::Loops::every, machine::specs::Counts::apart_from_earlier))]
+fn apart_from_earlier(d: &SoundDocument, m: u8, b: usize) -> bool
     requires { b < 128 }
-    ensures { (t : Anchors)
-        → b < t.count
-        → t.media ≡ media.now
-        → t.begins ≡ begins.now
-        → t.ends ≡ ends.now
-        → result ≡ apart_from_earlier t m b }
+    ensures { result ≡ apart_from_earlier d.now.document.anchors m b }
 {
-    if media[b] != m {
+    if !is_anchor_of(d, m, b) {
         return true;
     }
-    let begin = begins[b];
-    let end = ends[b];
     let mut all_apart = true;
-    let mut next = 0;
-    while next < b {
-        let a = next;
-        next += 1;
-        all_apart = all_apart & is_apart(media[a], begins[a], ends[a], m, begin, end);
+    for a in 0..b {
+        all_apart &= !is_anchor_of(d, m, a) | is_apart(&d.document.anchors, a, b);
     }
     all_apart
 }
 
-pub fn disjoint(anchors: Anchors, m: u8) -> bool
-    requires { anchors.count ≤ 128 }
-    ensures { result ≡ disjoint anchors m }
+#[tactic(auto, unfolding(base::specs::Loops::every, machine::specs::Counts::disjoint))]
+pub fn disjoint(d: &SoundDocument, m: u8) -> bool
+    ensures { result ≡ disjoint d.now.document.anchors m }
 {
-    let media = anchors.media;
-    let begins = anchors.begins;
-    let ends = anchors.ends;
     let mut all_apart = true;
-    let mut next = 0;
-    while next < anchors.count {
-        let b = next;
-        next += 1;
-        all_apart = all_apart & apart_from_earlier(&media, &begins, &ends, m, b);
+    for b in 0..d.document.anchors.count {
+        all_apart &= apart_from_earlier(d, m, b);
     }
     all_apart
 }
 
 // With the number of links that set the property, for each anchor whose start they are on.
-pub fn each_has_one_link(anchors: Anchors, m: u8, linked: [u8; 256]) -> bool
-    requires { anchors.count ≤ 128 }
-    ensures { (d : Document) (p : ℕ)
-        → d.anchors ≡ anchors
-        → Numbered (is_count_link_of d p) d.links.count linked
-        → result ≡ each_has_one_link d m p }
+#[tactic(auto, unfolding(base::specs::Loops::every, machine::specs::Counts::has_one_link, machine::specs::Counts::each_has_one_link))]
+pub fn each_has_one_link(d: &SoundDocument, m: u8, linked: &[u8; 256]) -> bool
+    ensures { (p : ℕ)
+        → Numbered (is_count_link_of d.now.document p) d.now.document.links.count linked.now
+        → result ≡ each_has_one_link d.now.document m p }
 {
-    let count = anchors.count;
     let mut each = true;
-    let mut next = 0;
-    while next < count {
-        let a = next;
-        next += 1;
-        each = each & ((anchors.media[a] != m) | (linked[a] == 1));
+    for a in 0..d.document.anchors.count {
+        each &= !is_anchor_of(d, m, a) | (linked[a] == 1);
     }
     each
 }

@@ -4,90 +4,52 @@
 mod anchors;
 mod links;
 
-ghost use Rattle.std.specs.Prelude.{◌≡◌, true, [], ◌∷◌, ◌<◌};
+ghost use Rattle.std.specs.Prelude.{◌≡◌, true, ◌<◌};
 ghost use Rattle.machine.specs.Tables.{anchor_at};
-ghost use Rattle.machine.specs.Counts.{first_failing, failing, shows_counts, count_of};
-ghost use Rattle.machine.specs.Sound.{Sound};
+ghost use Rattle.machine.specs.Counts.{failing, shows_counts, count_of};
 ghost use Rattle.counts.specs.Verdicts.{verdict_number};
 
-use machine::{Condition, Document};
-
-#[derive(Clone, Copy)]
-pub enum Verdict {
-    Passed,
-    Failed(Condition),
-}
-
-// The first of the conditions that fails.
-fn first_of(
-    has_anchor: bool,
-    disjoint: bool,
-    each_has_one_link: bool,
-    each_sets_once: bool,
-    each_unguarded: bool,
-    no_other: bool,
-    each_outside_switches: bool,
-) -> Verdict
-    ensures { verdict_number result ≡ first_failing 1 (has_anchor ∷ disjoint ∷ each_has_one_link
-        ∷ each_sets_once ∷ each_unguarded ∷ no_other ∷ each_outside_switches ∷ []) }
-{
-    if !has_anchor {
-        return Verdict::Failed(Condition::HasAnchor);
-    }
-    if !disjoint {
-        return Verdict::Failed(Condition::AnchorsDisjoint);
-    }
-    if !each_has_one_link {
-        return Verdict::Failed(Condition::EachHasOneLink);
-    }
-    if !each_sets_once {
-        return Verdict::Failed(Condition::EachSetsOnce);
-    }
-    if !each_unguarded {
-        return Verdict::Failed(Condition::EachUnguarded);
-    }
-    if !no_other {
-        return Verdict::Failed(Condition::NoOtherAction);
-    }
-    if !each_outside_switches {
-        return Verdict::Failed(Condition::EachOutsideSwitches);
-    }
-    Verdict::Passed
-}
+use machine::Condition;
+use machine::sound::SoundDocument;
 
 // The first condition that fails for a media and a property.
-pub fn first_failing(d: Document, media: u8, property: u8) -> Verdict
-    requires { Sound d }
-    ensures { verdict_number result ≡ failing d media property }
+#[tactic(auto, using(base::specs::Tests::when_tells), unfolding(machine::specs::Counts::failing, machine::specs::Counts::conditions, machine::specs::Counts::first_failing))]
+pub fn first_failing(d: &SoundDocument, media: u8, property: u8) -> Result<(), Condition>
+    ensures { verdict_number result ≡ failing d.now.document media property }
 {
-    let has_anchor = anchors::has_anchor(d.anchors, media);
-    let disjoint = anchors::disjoint(d.anchors, media);
+    if !anchors::has_anchor(d, media) {
+        return Err(Condition::HasAnchor);
+    }
+    if !anchors::disjoint(d, media) {
+        return Err(Condition::AnchorsDisjoint);
+    }
     let found = links::sweep(d, media, property);
-    let linked = found.linked;
-    let each_has_one_link = anchors::each_has_one_link(d.anchors, media, linked);
-    first_of(
-        has_anchor,
-        disjoint,
-        each_has_one_link,
-        found.each_sets_once,
-        found.each_unguarded,
-        found.no_other,
-        found.each_outside_switches,
-    )
+    if !anchors::each_has_one_link(d, media, &found.linked) {
+        return Err(Condition::EachHasOneLink);
+    }
+    if !found.each_sets_once {
+        return Err(Condition::EachSetsOnce);
+    }
+    if !found.each_unguarded {
+        return Err(Condition::EachUnguarded);
+    }
+    if !found.no_other {
+        return Err(Condition::NoOtherAction);
+    }
+    if !found.each_outside_switches {
+        return Err(Condition::EachOutsideSwitches);
+    }
+    Ok(())
 }
 
 // The count of an anchor whose media's counts the document shows.
-pub fn count_of(d: Document, property: u8, anchor: u8) -> i32
-    requires { Sound d
-        × (anchor < d.anchors.count)
-        × (shows_counts d (anchor_at d.anchors anchor).media property ≡ true) }
-    ensures { result ≡ count_of d property anchor }
+#[tactic(auto, using(crate::proofs::Places::link_given, crate::proofs::Places::action_given), unfolding(machine::specs::Counts::count_of))]
+pub fn count_of(d: &SoundDocument, property: u8, anchor: u8) -> i32
+    requires { (anchor < d.now.document.anchors.count)
+        × (shows_counts d.now.document (anchor_at d.now.document.anchors anchor).media property ≡ true) }
+    ensures { result ≡ count_of d.now.document property anchor }
 {
     let l = links::count_link(d, property, anchor);
-    let links = d.links;
-    let actions = d.actions;
-    let kinds = actions.actions;
-    let targets = actions.targets;
-    let j = links::count_action(&kinds, &targets, l, links.action_counts[l], property);
-    actions.values[8 * l + j]
+    let j = links::count_action(d, l, property);
+    d.document.actions.values[8 * l + j]
 }

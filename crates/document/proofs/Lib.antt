@@ -1,4 +1,4 @@
 pub mod Room
-mod Places
+mod Reading
 mod Records
 pub mod Heads

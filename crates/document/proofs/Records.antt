@@ -1,11 +1,14 @@
 -- The loop over a document's records.
 use mathlib.Core.Path.{◌≡◌, sym, subst}
-use mathlib.Core.List.{List}
+use mathlib.Core.List.{List, []}
 use Prim.Native.Nat.{ℕ, zero, suc, ◌+◌, ◌-◌, ◌<◌, ◌≤◌}
 use native.Mathlib.Numerals.{add-one}
 use native.Mathlib.Omega.{arith}
 use lib.ListN.{length, get_or, drop, drop_of_length-le}
 use lib.Seq.{drop-cons, drop-drop}
+use borrow.Author.Tests.{eq-eqb, ne_eqb}
+use Rattle.base.specs.Tests.{when◌then◌else◌}
+use Rattle.machine.specs.Answers.{accepted}
 use Rattle.machine.specs.Records.{body_length, record_fault, entered}
 use Rattle.machine.specs.Load.{OrFault, good, faulty, and_then, cut_at, cut, checked, records_entered, place_fault, load_refused, finished, load}
 use Rattle.machine.specs.Tables.{empty_document, empty_session}
@@ -69,3 +72,17 @@ ends doc s at h left = go left.most left.same
     go : (most : ℕ) → finished (records_entered place_fault (cut most (drop at doc)) s) ≡ load doc → finished (good s) ≡ load doc
     go zero e = e
     go (suc m) e = rw (drop_of_length-le doc h) at e
+
+-- after the last record
+module _ (s : Session) where
+  pub no_records : s.document.limit ≡ 0 → load_refused 3 ≡ finished (good s)
+  unfolding finished when◌then◌else◌
+  no_records e = rw (eq-eqb _ _ e)
+
+  pub no_node : (s.document.limit ≡ 0 → ⊥) → s.document.nodes.count ≡ 0 → load_refused 8 ≡ finished (good s)
+  unfolding finished when◌then◌else◌
+  no_node l e = rw (ne_eqb _ _ l, eq-eqb _ _ e)
+
+  pub loaded : (s.document.limit ≡ 0 → ⊥) → (s.document.nodes.count ≡ 0 → ⊥) → record { answer = accepted []; session = s } ≡ finished (good s)
+  unfolding finished when◌then◌else◌
+  loaded l n = rw (ne_eqb _ _ l, ne_eqb _ _ n)

@@ -1,20 +1,21 @@
 // Load: record after record, until the bytes end or a record is refused.
 ghost use Rattle.std.specs.Prelude.{◌≡◌, ◌<◌, length};
 ghost use Rattle.machine.specs.Tables.{empty_document, new_state, empty_session};
-ghost use Rattle.machine.specs.Load.{good, unless, checked, place_fault, load_refused, finished, load};
-ghost use Rattle.machine.specs.Answers.{number_of, check_number, load_answer};
+ghost use Rattle.machine.specs.Load.{checked, place_fault, load_refused, load};
+ghost use Rattle.machine.specs.Answers.{number_of};
 ghost use Rattle.records.specs.Reading.{cut_from, reading_of};
-ghost use Rattle.document.specs.Loading.{load_result, answer_of};
+ghost use Rattle.document.specs.Loading.{load_result};
 
 use crate::checking::{check_place, check_record};
 use crate::entering::enter;
 use machine::{
-    Actions, AnchorEvents, Anchors, Binds, Check, Document, Links, LoadAnswer, Loaded, NodeEvents,
-    Nodes, Ports, PropertyEvents, Refusal, Rules, Session, State, terms,
+    Actions, AnchorEvents, Anchors, Binds, Document, Links, Loaded, NodeEvents, Nodes, Ports,
+    PropertyEvents, Record, Refusal, Rules, Session, State, terms,
 };
-use records::reading::{Reading, cut_at};
+use records::reading::cut_at;
 use records::tables::body_length;
 
+#[tactic(auto, unfolding(machine::specs::Tables::empty_document))]
 fn empty_document() -> Document
     ensures { result ≡ empty_document }
 {
@@ -71,6 +72,7 @@ fn empty_document() -> Document
     }
 }
 
+#[tactic(auto, unfolding(machine::specs::Tables::new_state))]
 fn new_state() -> State
     ensures { result ≡ new_state }
 {
@@ -92,6 +94,7 @@ fn new_state() -> State
     }
 }
 
+#[tactic(auto, unfolding(machine::specs::Tables::empty_session))]
 pub fn empty_session() -> Session
     ensures { result ≡ empty_session }
 {
@@ -105,79 +108,52 @@ fn refuse(refusal: Refusal) -> Loaded
     ensures { load_result result ≡ load_refused (number_of refusal) }
 {
     Loaded {
-        answer: LoadAnswer::Refused(refusal),
+        answer: Err(refusal),
         session: empty_session(),
     }
 }
 
-// After the last record.
-fn finish(s: Session) -> Loaded
-    ensures { load_result result ≡ finished (good s) }
-{
-    let d = s.document;
-    if d.limit == 0 {
-        return refuse(Refusal::MisplacedHead);
-    }
-    let nodes = d.nodes;
-    if nodes.count == 0 {
-        return refuse(Refusal::NoNode);
-    }
-    Loaded {
-        answer: LoadAnswer::Accepted,
-        session: s,
-    }
-}
-
-// The reading, unless a check before it refuses.
-fn unless_refused(check: Check, reading: Reading) -> Reading
-    ensures { reading_of result ≡ unless (check_number check) (reading_of reading) }
-{
-    match check {
-        Check::Passed => reading,
-        Check::Refused(refusal) => Reading::Refused(refusal),
-    }
-}
-
 // The record that begins at a place of the document, checked.
-fn read_at(d: Document, document: &[u8], at: usize) -> Reading
+#[tactic(auto, unfolding(machine::specs::Load::checked, machine::specs::Load::and_then))]
+fn read_at(d: &Document, document: &[u8], at: usize) -> Result<Record, Refusal>
     requires { at < length document.now }
-    ensures { reading_of result ≡ checked place_fault d (cut_from document.now at) }
+    ensures { reading_of result ≡ checked place_fault d.now (cut_from document.now at) }
 {
-    let cut = cut_at(document, at);
-    let Reading::Read(record) = cut else {
-        return cut;
+    let reading = cut_at(document, at);
+    let Ok(record) = reading else {
+        return reading;
     };
-    let place = check_place(d, record);
-    let fault = check_record(d, record);
-    unless_refused(place, unless_refused(fault, cut))
+    check_place(d, record)?;
+    check_record(d, record)?;
+    reading
 }
 
-fn answer_of(reading: Reading) -> LoadAnswer
-    ensures { load_answer result ≡ answer_of reading }
-{
-    match reading {
-        Reading::Read(_) => LoadAnswer::Accepted,
-        Reading::Refused(refusal) => LoadAnswer::Refused(refusal),
-    }
-}
-
+// A record is taken from its reading by let else, whose other branch returns the refusal.
 pub fn load(document: &[u8]) -> Loaded
     ensures { load_result result ≡ load document.now }
 {
     let mut s = empty_session();
     let mut at = 0;
+    // A `while`: records are of several lengths.
     while at < document.len() {
-        let d = s.document;
-        let reading = read_at(d, document, at);
-        let Reading::Read(record) = reading else {
+        let reading = read_at(&s.document, document, at);
+        let Ok(record) = reading else {
             return Loaded {
-                answer: answer_of(reading),
+                answer: reading.and(Ok(())),
                 session: empty_session(),
             };
         };
-        let size = body_length(base::index_of(document[at]));
-        s = enter(s, record);
-        at = at + 1 + size;
+        enter(&mut s, record);
+        at = at + 1 + body_length(usize::from(document[at]));
     }
-    finish(s)
+    if s.document.limit == 0 {
+        return refuse(Refusal::MisplacedHead);
+    }
+    if s.document.nodes.count == 0 {
+        return refuse(Refusal::NoNode);
+    }
+    Loaded {
+        answer: Ok(()),
+        session: s,
+    }
 }

@@ -1,4 +1,3 @@
-mod Prelude
-mod Zeros
-mod DocumentEnds
-mod Slots
+pub mod Zeros
+pub mod DocumentEnds
+pub mod Slots

@@ -1,1 +1,1 @@
-mod Unbroken
+pub mod Unbroken

@@ -1,28 +1,14 @@
--- The session that a call returns is not broken, because the arrays of the session handed in have the lengths of their types.
-use Prim.Native.Nat.{ℕ}
-use mathlib.Core.Bool.{false}
-use mathlib.Core.List.{List}
-use mathlib.Core.Path.{◌≡◌, ap}
-use mir.Val.{Val}
-use denote.Shadow.{shadow}
-use borrow.Author.Rules.{rules}
+-- How a call on a session that is not broken ends leaves such a session, because the arrays of its state have the lengths of their types.
+use Rattle.std.specs.Prelude.{◌≡◌, false, ℕ}
+use Rattle.base.specs.Tests.{when◌then◌else◌}
 use Rattle.machine.specs.Broken.{broken}
-use Rattle.machine.specs.Operations.{CallResult, call}
+use Rattle.machine.specs.Operations.{argument_fault, ended, run_of, call_admitting}
 use Rattle.machine.specs.declared.Call.{Call}
 use Rattle.machine.specs.declared.Session.{Session}
-use Rattle.machine.specs.contracts.Session.{the_row}
 use Rattle.machine.proofs.Shape.{HasArrays}
 use Rattle.machine.proofs.Calls.{call_unbroken}
 
--- what a session tells that a function is handed
-pub session_arrays : (s : Session) (values : List Val) → shadow (the_row.own_val s values) → HasArrays s.state
-session_arrays s values own =
-    let state = own.1.1.1.0.1.1 in
-    record { nodes = search (rules, state.0); anchors = search (rules, state.1.0); properties = search (rules, state.1.1.0) }
-
--- so a call promises both its result and that the session stays unbroken
-pub promised : (s : Session) (c : Call) (bytes : ℕ) {r : CallResult} → broken s ≡ false → HasArrays s.state → r ≡ call s c bytes
-    → (r ≡ call s c bytes) × (broken r.session ≡ false)
-promised s c bytes {r} unbroken arrays e =
-    let same : r.session ≡ (call s c bytes).session = ap (λ (x : CallResult). x.session) e in
-    (e, rw same (call_unbroken s unbroken arrays c bytes))
+pub ends_unbroken : (s : Session) (c : Call) (bytes : ℕ) → broken s ≡ false → argument_fault s.document c ≡ 0 → HasArrays s.state
+    → broken (ended s bytes (run_of s c bytes)).session ≡ false
+unfolding call_admitting when◌then◌else◌
+ends_unbroken s c bytes unbroken given arrays = rw (unbroken, given) at (call_unbroken s unbroken arrays c bytes)

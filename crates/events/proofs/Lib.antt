@@ -1,5 +1,4 @@
 -- What the proofs of several functions use.
 mod Prelude
-mod BelowLaws
-mod Gathering
-mod BelowQueue
+pub mod BelowLaws
+pub mod Gathering

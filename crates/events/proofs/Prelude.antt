@@ -1,11 +1,8 @@
 -- What the proofs of this crate bring in, by one line.
-pub use mathlib.Core.Path.{◌≡◌, refl, sym, ap, ◌∙◌}
-pub use Prim.Native.Nat.{ℕ, ◌≤◌, ◌<◌, ◌-◌}
+pub use mathlib.Core.Path.{◌≡◌, sym, ◌∙◌}
+pub use Prim.Native.Nat.{ℕ, ◌<◌, ◌-◌}
 pub use native.Mathlib.Omega.{arith}
-pub use lib.ListN.{length}
-pub use borrow.Author.Rules.{rules}
-pub use borrow.Author.Tests.{eq-eqb, ne_eqb}
 unfoldable pub use Rattle.base.specs.Tests.{when◌then◌else◌}
 unfoldable pub use Rattle.base.specs.Loops.{ascending, descending}
-pub use Rattle.base.specs.Loops.{ascending_none, ascending_more, ascending_done, descending_more, descending_done}
+pub use Rattle.base.specs.Loops.{ascending_more, descending_more}
 pub use Rattle.events.specs.Running.{run}

@@ -1,52 +1,48 @@
 // An action, and the settling that follows it.
 ghost use Rattle.std.specs.Prelude.{◌≡◌, ◌<◌};
 ghost use Rattle.machine.specs.Events.{started, performed, acted};
-ghost use Rattle.machine.specs.Sound.{Applicable, Sound};
+ghost use Rattle.machine.specs.Sound.{Applicable};
 ghost use Rattle.events.specs.Running.{run};
 
 use super::Work;
 use super::media::{move_all, move_each};
 use super::properties::set_property;
 use super::settling::settle;
-use base::index_of;
-use machine::{ActionRecord, Document, terms};
+use machine::sound::SoundDocument;
+use machine::{ActionRecord, terms};
 use starting::media_of_start;
 
 // Start of node n: of the media that it reaches, one after the other; with the choices of the switches that it reaches.
-fn start_node(d: Document, w: Work, log: &mut [u8], n: usize) -> Work
-    requires { Sound d × (n < d.nodes.count) }
-    ensures { run result log.new ≡ started d 64 n (run w log.old) }
+#[tactic(auto, unfolding(starting::specs::Queues::reach_started))]
+fn start_node(d: &SoundDocument, w: &mut Work, log: &mut [u8], n: usize)
+    requires { n < d.now.document.nodes.count }
+    ensures { run w.new log.new ≡ started d.now.document 64 n (run w.old log.old) }
 {
-    let states = w.node_states;
-    let values = w.property_values;
-    let choices = w.choices;
-    let reach = media_of_start(d, states, values, choices, n);
-    let mut t = move_each(d.anchors, w, log, terms::TO_START, reach.queue);
-    let after = reach.choices;
-    t.choices = after;
-    t
+    let s = &w.state;
+    let reach = media_of_start(d, &s.nodes.states, &s.properties.values, &s.choices, n);
+    move_each(&d.document.anchors, w, log, terms::TO_START, &reach.queue);
+    w.state.choices = reach.choices;
 }
 
-fn perform(d: Document, w: Work, log: &mut [u8], a: ActionRecord) -> Work
-    requires { Sound d × Applicable d a }
-    ensures { run result log.new ≡ performed d a (run w log.old) }
+#[tactic(auto, using(base::specs::Tests::when_true, base::specs::Tests::when_false), unfolding(machine::specs::Events::performed))]
+fn perform(d: &SoundDocument, w: &mut Work, log: &mut [u8], a: ActionRecord)
+    requires { Applicable d.now.document a }
+    ensures { run w.new log.new ≡ performed d.now.document a (run w.old log.old) }
 {
-    let target = index_of(a.target);
-    if a.action == terms::TO_SET {
-        return set_property(w, log, target, a.value);
+    let target = usize::from(a.target);
+    match a.action {
+        terms::TO_SET => set_property(w, log, target, a.value),
+        terms::TO_START => start_node(d, w, log, target),
+        action => move_all(d, w, log, action, target),
     }
-    if a.action == terms::TO_START {
-        return start_node(d, w, log, target);
-    }
-    move_all(d, w, log, a.action, target)
 }
 
 // An action on its target: a node, or a property that takes the value.
-pub fn act(d: Document, w: Work, log: &mut [u8], a: ActionRecord) -> Work
-    requires { Sound d × Applicable d a }
-    ensures { run result log.new ≡ acted d a (run w log.old) }
+#[tactic(auto, unfolding(machine::specs::Events::acted))]
+pub fn act(d: &SoundDocument, w: &mut Work, log: &mut [u8], a: ActionRecord)
+    requires { Applicable d.now.document a }
+    ensures { run w.new log.new ≡ acted d.now.document a (run w.old log.old) }
 {
-    let nodes = d.nodes;
-    let v = perform(d, w, &mut *log, a);
-    settle(nodes, v, log, a.action, index_of(a.target))
+    perform(d, w, log, a);
+    settle(&d.document.nodes, w, log, a.action, usize::from(a.target));
 }

@@ -4,27 +4,19 @@ ghost use Rattle.machine.specs.Events.{set_property};
 ghost use Rattle.events.specs.Running.{run};
 
 use super::Work;
-use call_log::emit;
 use changes::count_after;
 use machine::terms;
 
-// Property p takes the value.
-pub fn set_property(w: Work, log: &mut [u8], p: usize, value: i32) -> Work
+// Property p takes the value. (An id below 32 fits a byte.)
+#[tactic(auto, unfolding(machine::specs::Events::set_property))]
+pub fn set_property(w: &mut Work, log: &mut [u8], p: usize, value: i32)
     requires { p < 32 }
-    ensures { run result log.new ≡ set_property p value (run w log.old) }
+    ensures { run w.new log.new ≡ set_property p value (run w.old log.old) }
 {
-    let mut t = w;
-    let first = emit(
-        &mut *log,
-        t.written,
-        terms::OF_PROPERTY,
-        p as u8,
-        terms::STARTS,
-    );
-    t.property_values[p] = value;
-    let second = emit(log, first, terms::OF_PROPERTY, p as u8, terms::STOPS);
-    t.written = second;
-    let count = count_after(terms::STOPS, t.property_counts[p]);
-    t.property_counts[p] = count;
-    t
+    w.written
+        .emit(log, terms::OF_PROPERTY, p as u8, terms::STARTS);
+    w.state.properties.values[p] = value;
+    w.written
+        .emit(log, terms::OF_PROPERTY, p as u8, terms::STOPS);
+    w.state.properties.counts[p] = count_after(terms::STOPS, w.state.properties.counts[p]);
 }

@@ -1,14 +1,14 @@
 -- The columns of the tables, of the document and of what changes: each keeps its places, and past the table's end it is zero.
 use Prim.Native.Nat.{ℕ, zero, suc, ◌+◌, ◌*◌, ◌≤◌, ◌<◌}
 use native.Mathlib.Omega.{arith}
-use mathlib.Core.Bool.{Bool, true, false≢true}
+use mathlib.Core.Bool.{Bool, true}
 use mathlib.Core.List.{List, [], ◌∷◌}
 use mathlib.Core.Path.{◌≡◌, refl, ap, ◌∙◌}
-use lib.IntN.{ℤ, pos, negsuc}
+use lib.IntN.{ℤ, pos}
+use Rattle.std.proofs.lemmas.List.{get_or_past, set_past}
 use lib.ListN.{length, get_or, set, take, drop, length-set, length-drop}
 use lib.Seq.{get_or-set_same, get_or-set_other, get_or-take, get_or-drop, length-take-le}
-use borrow.Author.Tests.{eqb-true, eqb-false, ltb-true, ltb-false}
-use Rattle.base.specs.Tests.{◌=?◌, ◌<?◌, equal_ints, by_test, both_pass, pass_both}
+use Rattle.base.specs.Tests.{◌=?◌, equal_ints, both_pass, pass_both}
 use Rattle.machine.specs.Tables.{Column, numbers, integers, Table, node_table, anchor_table, rule_table, bind_table, port_table, link_table, action_tables}
 use Rattle.machine.specs.Broken.{all, zero_from, ends_zero, document_ends_zero}
 use Rattle.machine.specs.declared.Document.{Document}
@@ -22,11 +22,11 @@ pub record Filled {A : Type 0} (z : A) (n places : ℕ) (l : List A) : Type 0 wh
 module _ {A : Type 0} {z : A} {n places : ℕ} {l : List A} where
   -- a store before the end
   pub stored : (i : ℕ) (x : A) → i < n → Filled z n places l → Filled z n places (set l i x)
-  stored i x h c = record { len = length-set l i x ∙ c.len; ends = λ k b. get_or-set_other l i k x z (λ e. omega arith) ∙ c.ends k b }
+  stored i x h c = grind (arith, length-set, get_or-set_other, c.ends)
 
   -- the end one further
   pub longer : Filled z n places l → Filled z (n + 1) places l
-  longer c = record { len = c.len; ends = λ k b. c.ends k (omega arith) }
+  longer c = grind (arith, c.ends)
 
 -- and a store in the place that is gained
 pub more : {A : Type 0} {z : A} {n places : ℕ} {l : List A} (x : A) → Filled z n places l → Filled z (n + 1) places (set l n x)
@@ -34,11 +34,7 @@ more x c = stored _ x (omega arith) (longer c)
 
 -- what holds of an entry and of what is stored at i holds of the entry then
 pub stored_entry : (P : ℕ → ℕ → Bool) (l : List ℕ) (i x k : ℕ) → P i x ≡ true → P k (get_or l k 0) ≡ true → P k (get_or (set l i x) k 0) ≡ true
-stored_entry P [] i x k new old = old
-stored_entry P (y ∷ l) zero x zero new old = new
-stored_entry P (y ∷ l) zero x (suc k) new old = old
-stored_entry P (y ∷ l) (suc i) x zero new old = old
-stored_entry P (y ∷ l) (suc i) x (suc k) new old = stored_entry (λ n. P (suc n)) l i x k new old
+stored_entry P l i x k new old = grind (arith, get_or-set_same, get_or-set_other, set_past)
 
 all_zero : {A : Type 0} (test : A → Bool) (z : A) → test z ≡ true → (l : List A) (n : ℕ) → ((i : ℕ) → n ≤ i → get_or l i z ≡ z) → all test (drop n l) ≡ true
 unfolding all
@@ -60,7 +56,7 @@ Whole t = Fits t.count t.places t.columns
 columns_end : (n places : ℕ) (cs : List Column) → Fits n places cs → all (zero_from n) cs ≡ true
 unfolding all
 columns_end n places [] c = refl
-columns_end n places (numbers l ∷ cs) c = pass_both _ _ (all_zero (λ x. x =? 0) 0 refl l n c.0.ends) (columns_end n places cs c.1)
+columns_end n places (numbers l ∷ cs) c = pass_both _ _ (all_zero _ 0 refl l n c.0.ends) (columns_end n places cs c.1)
 columns_end n places (integers l ∷ cs) c = pass_both _ _ (all_zero _ (pos 0) refl l n c.0.ends) (columns_end n places cs c.1)
 
 pub whole_ends : (t : Table) → Whole t → ends_zero t ≡ true
@@ -76,10 +72,6 @@ zero_all test z f (x ∷ xs) zero e (suc i) b = zero_all test z f xs zero (both_
 zero_all test z f (x ∷ xs) (suc n) e zero b = absurd (omega arith)
 zero_all test z f (x ∷ xs) (suc n) e (suc i) b = zero_all test z f xs n e i (omega arith)
 
-zero_value : (x : ℤ) → equal_ints x (pos 0) ≡ true → x ≡ pos 0
-zero_value (pos n) e = ap pos (eqb-true n 0 e)
-zero_value (negsuc n) e = absurd (false≢true e)
-
 abbrev Places : ℕ → List Column → Type 0
 Places places [] = Unit {0}
 Places places (numbers l ∷ cs) = (length l ≡ places) × Places places cs
@@ -89,15 +81,13 @@ columns_fit : (n places : ℕ) (cs : List Column) → Places places cs → all (
 unfolding all
 columns_fit n places [] p e = tt
 columns_fit n places (numbers l ∷ cs) p e =
-    let k = both_pass (zero_from n (numbers l)) _ e in (
-      record { len = p.0; ends = zero_all (λ x. x =? 0) 0 (λ x. eqb-true x 0) l n k.0 },
-      columns_fit n places cs p.1 k.1,
-    )
+    let zeros = zero_all (λ x. x =? 0) 0 (grind arith) l n in
+    let rest = columns_fit n places cs p.1 in
+    grind arith
 columns_fit n places (integers l ∷ cs) p e =
-    let k = both_pass (zero_from n (integers l)) _ e in (
-      record { len = p.0; ends = zero_all (λ x. equal_ints x (pos 0)) (pos 0) zero_value l n k.0 },
-      columns_fit n places cs p.1 k.1,
-    )
+    let zeros = zero_all (λ x. equal_ints x (pos 0)) (pos 0) (grind arith) l n in
+    let rest = columns_fit n places cs p.1 in
+    grind arith
 
 abbrev pub HasPlaces : Table → Type 0
 HasPlaces t = Places t.places t.columns
@@ -114,18 +104,7 @@ pub record Slots {A : Type 0} (z : A) (counts : List ℕ) (l : List A) : Type 0 
 module _ {A : Type 0} {z : A} {n : ℕ} {counts : List ℕ} {l : List A} (s : Slots z (n ∷ counts) l) where
   -- the places of the first link, and those of the others
   first : Filled z n 8 (take 8 l)
-  first = record {
-    len = length-take-le 8 l (omega (arith, s.len));
-    ends = λ i b. by_test (i <? 8)
-        (λ h. let j = ltb-true i 8 h in let e : 8 * 0 + i ≡ i = omega arith in get_or-take 8 l i z j ∙ rw e at (s.ends 0 i b j))
-        (λ h. past 8 l i (ltb-false i 8 h));
-  }
-    where
-      past : (m : ℕ) (l : List A) (i : ℕ) → m ≤ i → get_or (take m l) i z ≡ z
-      past zero l i h = refl
-      past (suc m) [] i h = refl
-      past (suc m) (x ∷ xs) zero h = absurd (omega arith)
-      past (suc m) (x ∷ xs) (suc i) h = past m xs i (omega arith)
+  first = grind (arith, get_or-take, get_or_past, length-take-le, s.len, s.ends 0)
 
   others : Slots z counts (drop 8 l)
   others = record {
@@ -143,16 +122,7 @@ action_ends (n ∷ counts) actions targets values a t v =
 -- one action more, of link k
 pub slot_stored : {A : Type 0} {z : A} {counts : List ℕ} {l : List A} (k : ℕ) (x : A) → k < length counts → get_or counts k 0 < 8 → Slots z counts l
     → Slots z (set counts k (get_or counts k 0 + 1)) (set l (8 * k + get_or counts k 0) x)
-slot_stored {z = z} {counts} {l} k x h c s =
-    let n = get_or counts k 0 in
-    let kept : (i j : ℕ) → get_or counts i 0 ≤ j → j < 8 → (8 * i + j ≡ 8 * k + n → ⊥) → get_or (set l (8 * k + n) x) (8 * i + j) z ≡ z
-    = λ i j b m u. get_or-set_other l (8 * k + n) (8 * i + j) x z u ∙ s.ends i j b m in
-    record {
-      len = length-set l _ x ∙ rw (length-set counts k (n + 1)) s.len;
-      ends = λ i j b m. by_test (i =? k)
-          (λ e. let q = eqb-true i k e in let f : n + 1 ≤ j = rw (q, get_or-set_same counts k (n + 1) 0 h) at b in rw q (kept k j (omega arith) m (λ u. omega arith)))
-          (λ e. let q = eqb-false i k e in kept i j (rw (get_or-set_other counts k i (n + 1) 0 q) at b) m (λ u. omega arith));
-    }
+slot_stored k x h c s = grind (arith, length-set, get_or-set_same, get_or-set_other, s.ends)
 
 -- ---- the columns of a document
 
@@ -169,13 +139,4 @@ pub record Columns (d : Document) : Type 0 where
 
 pub document_ends : (d : Document) → Columns d → document_ends_zero d ≡ true
 unfolding document_ends_zero
-document_ends d c =
-    rw (
-      whole_ends (node_table d.nodes) c.nodes,
-      whole_ends (anchor_table d.anchors) c.anchors,
-      whole_ends (rule_table d.rules) c.rules,
-      whole_ends (bind_table d.binds) c.binds,
-      whole_ends (port_table d.ports) c.ports,
-      whole_ends (link_table d.links) c.links,
-      action_ends d.links.action_counts _ _ _ c.actions c.targets c.values,
-    )
+document_ends d c = search (pass_both, whole_ends, action_ends) depth 12

@@ -5,11 +5,10 @@ use native.Mathlib.Omega.{arith}
 use mathlib.Core.Bool.{◌&&◌}
 use mathlib.Core.List.{List, [], ◌∷◌, ◌++◌, append_assoc, append-nil}
 use mathlib.Core.Path.{◌≡◌, refl, sym}
-use lib.Dec.{lit<}
 use lib.ListN.{length, get_or, take, length-append}
 use lib.Seq.{take_all, take-suc, take-append-le}
-use borrow.Author.Tests.{eqb-false, ltb-true, ltb-false}
-use Rattle.base.specs.Tests.{when◌then◌else◌, ◌=?◌, ◌<?◌, by_test, both_pass}
+use borrow.Author.Tests.{ltb-true, ltb-false}
+use Rattle.base.specs.Tests.{when◌then◌else◌, ◌<?◌, both_pass}
 use Rattle.machine.specs.Log.{Log, line, met, logged}
 use Rattle.machine.specs.Events.{Run, node_changed, node_to, anchor_changed, anchor_to, set_property, choice_made}
 use Rattle.machine.specs.Tick.{keyed}
@@ -23,16 +22,17 @@ use Rattle.machine.proofs.Keep.{Primitives, steps, actions, line_keeps, chosen}
 -- a refusal that is met stops the run
 pub met_stops : (number : ℕ) (g : Log) → 0 < number → (met number g).stop ≡ 0 → ⊥
 unfolding when◌then◌else◌
-met_stops number g h = by_test (g.stop =? 0) (λ e. rw e (λ q. omega arith)) (λ e. rw e (eqb-false g.stop 0 e))
+met_stops number g h = grind arith
 
--- one more line, if nothing stops the run, in a state that may have changed, after the lines h of the calls before
+-- one more line, if nothing stops the run
+pub line_logged : (l : Line) (g : Log) → (logged l g).stop ≡ 0 → (g.stop ≡ 0) × ((logged l g).lines ≡ g.lines ++ (l ∷ []))
+unfolding logged when◌then◌else◌
+line_logged l g e = grind arith
+
+-- and in a state that may have changed, after the lines h of the calls before
 pub one_more : (h : List Line) (P Q : List Line → Type 0) (l : Line) (g : Log) → ((ls : List Line) → P ls → Q (ls ++ (l ∷ [])))
     → (g.stop ≡ 0 → P (h ++ g.lines)) → (logged l g).stop ≡ 0 → Q (h ++ (logged l g).lines)
-unfolding logged
-one_more h P Q l g k q =
-    chosen (λ (x : Log). x.stop ≡ 0 → Q (h ++ x.lines)) (length g.lines <? g.room)
-    (λ _ f. rw (← append_assoc) (k _ (q f)))
-    (λ _ f. absurd (met_stops 12 g (lit< tt) f))
+one_more h P Q l g k q = grind (arith, line_logged, append_assoc)
 
 -- ---- the log of a run, against an earlier one
 
@@ -49,17 +49,15 @@ module _ (d : Document) (x : Log) where
   abbrev pub AddedRun : Run → Type 0
   AddedRun r = Added x r.log
 
+  met_added : (number : ℕ) (g : Log) → Added x g → Added x (met number g)
+  met_added number g a = record { new = a.new; lines = a.lines; room = a.room; fits = a.fits }
+
   line_added : (l : Line) (g : Log) → Added x g → Added x (logged l g)
   unfolding logged
   line_added l g a =
       chosen (Added x) _
-      (λ e. record {
-        new = a.new ++ (l ∷ []);
-        lines = rw (a.lines, append_assoc);
-        room = a.room;
-        fits = rw length-append (omega (arith, ltb-true (length g.lines) g.room e));
-      })
-      (λ _. record { new = a.new; lines = a.lines; room = a.room; fits = a.fits })
+      (λ e. record { new = a.new ++ (l ∷ []); lines = grind (arith, append_assoc); room = a.room; fits = grind (arith, length-append) })
+      (λ _. met_added 12 g a)
 
   pub adds : Primitives d AddedRun
   unfolding node_to node_changed anchor_to anchor_changed set_property choice_made keyed firing_logged limit_met
@@ -67,11 +65,11 @@ module _ (d : Document) (x : Log) where
     moves = record {
       node = λ aborting n new r _ p. chosen AddedRun _ (λ _. p) (λ _. line_added _ _ p);
       anchor = λ aborting a new r _ p. chosen AddedRun _ (λ _. p) (λ _. line_added _ _ p);
-      clock = λ n clock r _ p. p;
-      choice = λ n c r _ p. p;
+      clock = search;
+      choice = search;
     };
-    property = λ i value r _ p. line_added _ _ (line_added _ _ p);
-    lines = record { key = λ code r p. line_added _ _ p; firing = λ l r _ p. line_added _ _ p; limit = λ r p. record { new = p.new; lines = p.lines; room = p.room; fits = p.fits } };
+    property = search line_added;
+    lines = search (line_added, met_added);
   }
 
 -- ---- what holds after each line that is taken holds after the chain, of all its lines, if nothing stops it
@@ -92,7 +90,7 @@ module _ (admits : OwnerTest) (d : Document) (sound : Sound d) (P : List Line �
       let i = ltb-true k (length r.log.lines) (both_pass (goes_on r) _ e).1 in
       let g = line_keeps d (AddedRun d r.log) sound (actions d _ sound (steps d _ (adds d r.log))) admits x r (none_added r.log fits) in
       let same : take (k + 1) (line_taken admits d x r).log.lines ≡ take k r.log.lines ++ (x ∷ [])
-      = rw (g.lines, take-append-le (k + 1) r.log.lines g.new (omega arith), add-one) (take-suc r.log.lines k (line 0 0 0) i) in
+      = grind (arith, take-append-le, take-suc, add-one) in
       lines_turns most (k + 1) _ g.fits (omega (arith, g.room)) (rw (same, ← append_assoc) (turn _ x r p)))
       (λ e f. rw (take_all k r.log.lines (ltb-false k (length r.log.lines) (rw f at e))) at p)
 

@@ -4,23 +4,20 @@ use Prim.Native.Nat.{ℕ, zero, suc, ◌<◌, ◌≤◌}
 use mathlib.Core.Bool.{Bool, true, false, ◌&&◌}
 use mathlib.Core.Path.{◌≡◌, refl}
 use lib.IntN.{ℤ}
-use lib.Dec.{lit≤}
-use borrow.Author.Tests.{eqb-true, eqb-false, ltb-true}
-use Rattle.base.specs.Tests.{when◌then◌else◌, ◌=?◌, both_pass}
+use native.Mathlib.Omega.{arith}
+use Rattle.base.specs.Tests.{when◌then◌else◌, ◌=?◌}
 use Rattle.base.specs.Loops.{ascending, ascending_turns, descending_turns}
-use Rattle.machine.specs.Terms.{paused, to_start, to_stop, to_abort, to_set}
-use Rattle.machine.specs.Tables.{is_media, anchor_at, bind_at}
-use Rattle.machine.specs.Events.{Run, node_state, anchor_state, next_state, with_state, node_to, anchor_to, set_property, follows, anchor_moved, anchors_moved, media_to, media_moved, found_bind, choice_made, port_started, context_started, switch_started, started_one, started, moved_below, all_moved, children_state, settled_one, settled, performed, acted}
+use Rattle.machine.specs.Terms.{paused, to_start, to_abort, to_set}
+use Rattle.machine.specs.Tables.{is_media, anchor_at, action_count}
+use Rattle.machine.specs.Events.{Run, node_state, anchor_state, next_state, with_state, node_to, anchor_to, set_property, follows, anchor_moved, anchors_moved, media_to, media_moved, choice_made, port_started, context_started, switch_started, started_one, started, moved_below, all_moved, children_state, settled_one, settled, performed, acted}
 use Rattle.machine.specs.Tick.{with_clock, anchors_passed, passed, ticked_one, ticked, keyed}
 use Rattle.machine.specs.Owners.{OwnerTest}
 use Rattle.machine.specs.Chain.{firing_logged, action_run, actions_run, limit_met, fired, link_tried, line_taken, lines_taken, chained}
 use Rattle.machine.specs.Broken.{choice_right}
 use Rattle.machine.specs.Sound.{Applicable, Sound}
 use Rattle.machine.specs.declared.Document.{Document}
-use Rattle.machine.specs.declared.Nodes.{Nodes}
 use Rattle.machine.specs.declared.ActionRecord.{ActionRecord}
 use Rattle.machine.specs.declared.Line.{Line}
-use mathlib.Core.List.{List}
 use Rattle.machine.proofs.SoundTables.{bind_own}
 
 -- a choice, with what its test tells
@@ -31,14 +28,7 @@ chosen P false p q = q refl
 
 -- three tests that all pass
 pub all_pass : (a b c : Bool) → a && b && c ≡ true → (a ≡ true) × (b ≡ true) × (c ≡ true)
-all_pass a b c e =
-    let p = both_pass (a && b) c e in
-    let q = both_pass a b p.0 in
-    (q.0, q.1, p.1)
-
-pub children_three : (nodes : Nodes) (states : List ℕ) (c : ℕ) → children_state nodes states c ≤ paused
-unfolding children_state
-children_three nodes states c = chosen (λ s. s ≤ 2) _ (λ _. lit≤ tt) (λ _. chosen (λ s. s ≤ 2) _ (λ _. lit≤ tt) (λ _. lit≤ tt))
+all_pass a b c e = grind arith
 
 module _ (d : Document) (P : Run → Type 0) where
   -- the steps that change no state
@@ -88,80 +78,58 @@ module _ (d : Document) (P : Run → Type 0) where
       (a : ℕ) (r : Run) → a < d.anchors.count → moves (anchor_at d.anchors a).begin (anchor_at d.anchors a).end (anchor_state r.state a) ≡ true → P r → P (anchor_to aborting a new r)
 
   pub pass_keeps : (moves : ℕ → ℕ → ℕ → Bool) (aborting : Bool) (n new : ℕ) → AnchorsKeep moves aborting new → (r : Run) → P r → P (anchors_moved d.anchors moves aborting n new r)
-  unfolding anchors_moved anchor_moved
-  pass_keeps moves aborting n new keep = each _ (λ a r h p. chosen P _ (λ e. keep a r h (both_pass ((anchor_at d.anchors a).media =? n) _ e).1 p) (λ _. p))
+  unfolding anchors_moved anchor_moved when◌then◌else◌
+  pass_keeps moves aborting n new keep = each _ (grind (arith, keep))
 
   pub media_keeps : (action n : ℕ) (r : Run) → let new = next_state (node_state r.state n) action in
       ((x : Run) → P x → P (node_to (action =? to_abort) n new x)) → AnchorsKeep (follows action) (action =? to_abort) new → P r → P (media_moved d.anchors action n r)
-  unfolding media_moved media_to
+  unfolding media_moved media_to when◌then◌else◌
   media_keeps action n r node keep p =
-      let pass = pass_keeps (follows action) (action =? to_abort) n _ keep in
-      chosen P _ (λ _. p) (λ _. chosen P _ (λ _. pass _ (node r p)) (λ _. node _ (pass r p)))
+      let pass = pass_keeps (follows action) (action =? to_abort) n (next_state (node_state r.state n) action) keep in
+      grind (arith, node, pass)
 
   module _ (k : Moves) where
     media_moves_keep : (action n : ℕ) (r : Run) → n < d.nodes.count → P r → P (media_moved d.anchors action n r)
-    media_moves_keep action n r h = media_keeps action n r (λ x. k.node _ n _ x h) (λ a x i _. k.anchor _ a _ x i)
+    media_moves_keep action n r h p = grind (arith, media_keeps, k.node, k.anchor)
 
     pub anchors_passed_keep : (n clock : ℕ) (r : Run) → n < d.nodes.count → P r → P (anchors_passed d n clock r)
     unfolding anchors_passed
-    anchors_passed_keep n clock r h p =
-        pass_keeps _ _ n _ (λ a x i _. k.anchor _ a _ x i) _ (pass_keeps _ _ n _ (λ a x i _. k.anchor _ a _ x i) _ (k.clock n clock r h p))
+    anchors_passed_keep n clock r h p = grind (arith, pass_keeps, k.anchor)
 
     pub passed_keeps : (n clock : ℕ) (r : Run) → n < d.nodes.count → P r → P (passed d n clock r)
-    unfolding passed
-    passed_keeps n clock r h p =
-        let q = anchors_passed_keep n clock r h p in
-        chosen P _ (λ _. media_moves_keep to_stop n _ h q) (λ _. q)
-
-    tick_keeps : (n : ℕ) (r : Run) → n < d.nodes.count → P r → P (ticked_one d n r)
-    unfolding ticked_one
-    tick_keeps n r h p = chosen P _ (λ _. passed_keeps n _ r h p) (λ _. p)
+    unfolding passed when◌then◌else◌
+    passed_keeps n clock r h p = grind (arith, anchors_passed_keep, media_moves_keep)
 
     pub moved : NodeMoves
-    moved = record {
-      media = λ action n r _ h _ p. media_moves_keep action n r h p;
-      tick = tick_keeps;
-      composite = λ aborting c new r h _ _ p. k.node aborting c new r h p;
-      choice = k.choice;
-    }
+    unfolding ticked_one when◌then◌else◌
+    moved = grind (arith, media_moves_keep, passed_keeps)
 
   pub steps : Primitives → Steps
   steps k = record { moves = moved k.moves; property = k.property; lines = k.lines }
 
   module _ (sound : Sound d) (k : NodeMoves) where
     started_keeps : (levels n : ℕ) (r : Run) → n < d.nodes.count → P r → P (started d levels n r)
-    unfolding started started_one context_started port_started switch_started choice_right
+    unfolding started started_one context_started port_started switch_started choice_right when◌then◌else◌
     started_keeps zero n r h p = p
     started_keeps (suc levels) n r h p =
-        chosen P _ (λ e. k.media to_start n r (lit≤ tt) h e p)
-        (λ _. chosen P _ (λ _. p)
-        (λ _. chosen P _
-        (λ _. each _ (λ q r l p. chosen P _ (λ _. started_keeps levels _ r (sound.port_child q l) p) (λ _. p)) r p)
-        (λ _. chosen P _
-        (λ l.
-        let values = r.state.properties.values in
-        let b = found_bind d.binds d.rules values n in
-        let given = ltb-true b d.binds.count l in
-        let right : choice_right d.nodes n (bind_at d.binds b).child ≡ true = rw (bind_own d values n b refl given) at (sound.bind_choice b given) in
-        started_keeps levels _ _ (sound.bind_child b given) (k.choice n _ r right p))
-        (λ _. k.choice n 0 r refl p))))
+        let start = started_keeps levels in
+        let ports = each d.ports.count {step = port_started d (started d levels) n} (grind (arith, start, sound.port_child)) r p in
+        let own = bind_own d r.state.properties.values n _ refl in
+        grind (arith, start, own, sound.bind_choice, sound.bind_child)
 
     -- an action, where it keeps the property if it sets one
     pub moves_keep : (a : ActionRecord) (r : Run) → Applicable d a → (a.action ≡ to_set → P (set_property a.target a.value r)) → P r → P (performed d a r)
-    unfolding performed all_moved moved_below
+    unfolding performed all_moved moved_below when◌then◌else◌
     moves_keep a r t set p =
-        chosen P _ (λ e. set (eqb-true _ _ e))
-        (λ e. chosen P _ (λ _. started_keeps 64 a.target r (t.node (eqb-false _ _ e)) p)
-        (λ _. each _ (λ n r h p. chosen P _ (λ b. k.media a.action n r t.least h (both_pass _ _ b).0 p) (λ _. p)) r p))
+        let all = each d.nodes.count {step = moved_below d a.action a.target} (grind arith) r p in
+        grind (arith, started_keeps)
 
     pub media_ticked_keeps : (r : Run) → P r → P (ascending (ticked_one d) d.nodes.count r)
     media_ticked_keeps = each _ k.tick
 
     pub settled_keeps : (action target : ℕ) (r : Run) → P r → P (settled d.nodes action target r)
-    unfolding settled settled_one
-    settled_keeps action target r p =
-        descending_turns (λ _. P) _ r p
-        (λ c r h p. chosen P _ (λ _. p) (λ e. k.composite _ c _ r h e (children_three d.nodes _ c) p))
+    unfolding settled settled_one children_state when◌then◌else◌
+    settled_keeps action target r p = descending_turns (λ _. P) _ r p (grind (arith, k.composite))
 
     pub ticks_keep : (r : Run) → P r → P (ticked d r)
     unfolding ticked
@@ -169,7 +137,7 @@ module _ (d : Document) (P : Run → Type 0) where
 
   module _ (sound : Sound d) (k : Steps) where
     pub performed_keeps : (a : ActionRecord) (r : Run) → Applicable d a → P r → P (performed d a r)
-    performed_keeps a r t p = moves_keep sound k.moves a r t (λ e. k.property _ _ r (t.property e) p) p
+    performed_keeps a r t p = grind (arith, moves_keep)
 
     pub actions : Actions
     unfolding acted
@@ -181,26 +149,23 @@ module _ (d : Document) (P : Run → Type 0) where
 
   module _ (sound : Sound d) (k : Actions) where
     fired_keeps : (l : ℕ) (r : Run) → l < d.links.count → P r → P (fired d l r)
-    unfolding fired actions_run action_run
+    unfolding fired actions_run action_run when◌then◌else◌
     fired_keeps l r h p =
-        chosen P _
-        (λ b. each _
-        (λ j r i p. chosen P _ (λ _. k.action _ r (sound.link_action l j h i) p) (λ _. p))
-        _ (k.lines.firing l r (ltb-true _ _ b) p))
-        (λ _. k.lines.limit r p)
+        let actions = each (action_count d.links l) {step = action_run d l} (grind (arith, sound.link_action)) in
+        grind (arith, actions)
 
     pub link_keeps : (admits : OwnerTest) (x : Line) (l : ℕ) (r : Run) → l < d.links.count → P r → P (link_tried admits d x l r)
-    unfolding link_tried
-    link_keeps admits x l r h p = chosen P _ (λ _. fired_keeps l r h p) (λ _. p)
+    unfolding link_tried when◌then◌else◌
+    link_keeps admits x l r h p = grind (arith, fired_keeps)
 
     pub line_keeps : (admits : OwnerTest) (x : Line) (r : Run) → P r → P (line_taken admits d x r)
     unfolding line_taken
     line_keeps admits x = each _ (link_keeps admits x)
 
     lines_keep : (admits : OwnerTest) (most i : ℕ) (r : Run) → P r → P (lines_taken admits d most i r)
-    unfolding lines_taken
+    unfolding lines_taken when◌then◌else◌
     lines_keep admits zero i r p = p
-    lines_keep admits (suc most) i r p = chosen P _ (λ _. lines_keep admits most _ _ (line_keeps admits _ r p)) (λ _. p)
+    lines_keep admits (suc most) i r p = grind (arith, line_keeps, lines_keep admits most)
 
     pub chained_keeps : (admits : OwnerTest) (r : Run) → P r → P (chained admits d r)
     unfolding chained

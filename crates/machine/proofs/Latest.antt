@@ -1,13 +1,14 @@
 -- Where the anchors of a media do not overlap, an awake one is the last of them that started: kept by every whole step of a node.
 use Prim.Native.Nat.{ℕ, ◌≤◌, ◌<◌}
 use native.Mathlib.Omega.{arith}
-use mathlib.Core.Bool.{Bool, true, false, ◌&&◌, true≢false, and-false}
+use mathlib.Core.Bool.{Bool, true, false, ◌&&◌, and-false}
 use mathlib.Core.List.{List, ◌++◌}
-use mathlib.Core.Path.{◌≡◌, refl, sym, ◌∙◌}
+use mathlib.Core.Path.{◌≡◌, refl}
 use lib.Dec.{lit<}
 use lib.ListN.{length, get_or, set, length-set}
-use borrow.Author.Tests.{eqb-true, eq-eqb, ne_eqb}
-use Rattle.base.specs.Tests.{when◌then◌else◌, ◌=?◌, by_test, not_true, not_false}
+use borrow.Author.Tests.{eqb-true}
+use Rattle.std.proofs.lemmas.Bool.Decides.{nat_tests}
+use Rattle.base.specs.Tests.{when◌then◌else◌, ◌=?◌, by_test, not_true}
 use Rattle.machine.specs.Terms.{sleeping, occurring, to_start, to_stop, of_property, starts, no_id}
 use Rattle.machine.specs.Log.{line, logged}
 use Rattle.machine.specs.Events.{Run, node_clock, anchor_state, awake, with_state, node_changed, node_to, anchor_changed, anchor_to, set_property, choice_made, begins_at, ends_at, is_awake, follows, media_moved}
@@ -71,8 +72,7 @@ module _ (h : List Line) (d : Document) (m : ℕ) where
   unfolding when◌then◌else◌
   none_starts aborting a new r i no_start k =
       anchor_kept Latest aborting a new r
-      (λ last q. rw no_start (λ b v w. q b v (λ z. w (get_d_set r.state.anchors.states a b new 0 (omega (arith, k.room))
-      ∙ by_test (a =? b) (λ e. rw e (eqb-true new 0 (not_false _ (rw (eqb-true a b e, z) at no_start)))) (λ e. rw e z)))))
+      (λ last q. rw no_start (λ b v w. grind (arith, nat_tests, q b v, get_d_set r.state.anchors.states a b new 0, k.room)))
       k
 
   -- ---- where one of m is awake, so is the last: kept where none goes to sleep
@@ -86,13 +86,7 @@ module _ (h : List Line) (d : Document) (m : ℕ) where
       let states = r.state.anchors.states in
       let after : (b : ℕ) → get_or (set states a new) b 0 ≡ (when a =? b then new else get_or states b 0) = λ b. get_d_set states a b new 0 (omega (arith, k.room)) in
       anchor_kept LatestAwake aborting a new r
-      (λ last q. by_test (get_or states a 0 =? sleeping && awake new && is_anchor_of d.anchors m a)
-      (λ t. rw t (λ b v w. ((all_pass (get_or states a 0 =? sleeping) (awake new) _ t).2, rw (after a, eq-eqb a a refl) wakes)))
-      (λ t. rw t (λ b v w.
-      let was : Awake (get_or states b 0)
-      = λ z. by_test (a =? b) (λ e. true≢false (sym (rw (eqb-true a b e, z, ne_eqb new 0 wakes) v) ∙ t)) (λ e. w (after b ∙ rw e z)) in
-      let g = q b v was in
-      (g.0, rw (after last) (by_test (a =? last) (λ e. rw e wakes) (λ e. rw e g.1))))))
+      (λ last q b v w. grind (arith, nat_tests, q b v, after a, after b, after last))
       k
 
   -- Latest gives LatestAwake; where the anchors of m follow their media and do not overlap, at most one of them is awake, and LatestAwake gives Latest
@@ -135,7 +129,7 @@ module _ (h : List Line) (d : Document) (m : ℕ) where
         chosen (IfFitted Latest) _
         (λ e.
         let b = all_pass _ _ _ e in
-        let ended = pass_keeps d (IfFitted Latest) (ends_at _) false n sleeping (λ a x i _. none_starts false a sleeping x i (rw and-false)) _ (record { room = k.1.room; holds = k.1.holds }) in
+        let ended = pass_keeps d (IfFitted Latest) (ends_at _) false n sleeping (λ a x i _. none_starts false a sleeping x i (rw and-false)) _ assumption in
         let begun = pass_keeps d (IfFitted LatestAwake) (begins_at _) false n occurring (λ a x i _. none_sleeps false a occurring x i (λ z. omega arith)) _ (weaken _ ended) in
         let latest = strengthen p s _ (anchors d sound n r i b.0 (eqb-true _ _ b.1) k.0.shaped k.0.timed) begun in
         chosen (IfFitted Latest) _ (λ _. moved_latest to_stop n _ refl latest) (λ _. latest))
@@ -151,7 +145,7 @@ module _ (h : List Line) (d : Document) (m : ℕ) where
             media = λ action n r one i type k. let u = t.moves.media action n r one i type k.0 in (u, media_latest action n r u k.1);
             tick = λ n r i k. (t.moves.tick n r i k.0, tick_latest n r i k);
             composite = λ aborting c new r i type low k. (t.moves.composite aborting c new r i type low k.0, node_kept Latest aborting c new r k.1);
-            choice = λ n c r right k. (t.moves.choice n c r right k.0, record { room = k.1.room; holds = k.1.holds });
+            choice = λ n c r right k. (t.moves.choice n c r right k.0, assumption);
           };
           property = λ j value r i k. (
             t.property j value r i k.0,

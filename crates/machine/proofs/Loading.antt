@@ -3,11 +3,13 @@ use Prim.Native.Nat.{ℕ, ◌+◌, ◌*◌, ◌<◌}
 use native.Mathlib.Omega.{arith}
 use mathlib.Core.List.{List}
 use mathlib.Core.Path.{◌≡◌}
+use lib.IntN.{pos}
+use mathlib.Core.Bool.{false}
 use lib.ListN.{length, get_or, set}
 use lib.Seq.{get_or-set_same, get_or-set_other}
-use borrow.Author.Tests.{eqb-true, eqb-false, leb-true, leb-false}
+use borrow.Author.Tests.{leb-true, leb-false}
 use borrow.Author.Count.{below_more}
-use Rattle.base.specs.Tests.{◌=?◌, ◌≤?◌, by_test, both_pass}
+use Rattle.base.specs.Tests.{when◌then◌else◌, ◌≤?◌, both_pass}
 use Rattle.machine.specs.Tables.{node_at, anchor_at, rule_at, bind_at, port_at, link_at, action_count, action_at, latest, more_nodes, more_anchors, more_rules, more_binds, more_ports, more_links, with_limit, with_nodes, with_anchors, with_properties, with_rules, with_binds, with_ports, with_links}
 use Rattle.machine.specs.Records.{with_action}
 use Rattle.machine.specs.declared.Document.{Document}
@@ -19,12 +21,13 @@ use Rattle.machine.specs.declared.PortRecord.{PortRecord}
 use Rattle.machine.specs.declared.LinkRecord.{LinkRecord}
 use Rattle.machine.specs.declared.ActionRecord.{ActionRecord}
 use Rattle.machine.proofs.SoundTables.{NodePasses, AnchorPasses, RuleEntry, BindPasses, PortPasses, LinkPasses, ActionPasses, Entries}
+use Rattle.machine.proofs.Effects.{get_d_set}
 use Rattle.machine.proofs.Columns.{Filled, Columns, stored, longer, more, slot_stored}
 use Rattle.machine.proofs.Entries.{Extends, carried, node_more, anchor_more, bind_more, port_more, link_more, action_more}
 
 -- there is room for one entry more, and the entries before it stay as they were
-room : {A : Type 0} {z : A} {n places : ℕ} {l : List A} → Filled z n places l → n < places → n < length l
-room c h = omega (arith, c.len)
+room : {A : Type 0} {z : A} {n places : ℕ} {l : List A} → Filled z n places l → places ≤? n ≡ false → n < length l
+room {n = n} {places} c few = omega (arith, c.len, leb-false places n few)
 
 old : {A : Type 0} (l : List A) (n i : ℕ) (x z : A) → i < n → get_or (set l n x) i z ≡ get_or l i z
 old l n i x z h = get_or-set_other l n i x z (λ e. omega arith)
@@ -44,58 +47,53 @@ module _ (d : Document) (s : Loading d) where
   limit_entered limit =
       let x : Extends d (with_limit limit d) = search arith in
       let k = carried _ _ x s.entries in
-      record { columns = search; entries = search }
+      search
 
   pub node_entered : (r : NodeRecord) → NodePasses d.nodes d.nodes.count r → Loading (with_nodes (more_nodes r d.nodes) d)
   node_entered r p =
       let e = with_nodes (more_nodes r d.nodes) d in
-      let h : d.nodes.count < 64 = leb-false _ _ p.few in
       let x : Extends d e = search (old, arith) in
       let k = carried d e x s.entries in
       let all = grown (NodePasses e.nodes) (node_at d.nodes) (node_at e.nodes) _ r x.node (search (get_or-set_same, room)) k.nodes (node_more d e x _ r (omega arith) p) in
-      record { columns = search more; entries = search }
+      search more
 
   pub anchor_entered : (r : AnchorRecord) → AnchorPasses d.nodes d.anchors.count r → Loading (with_anchors (more_anchors r d.anchors) d)
   anchor_entered r p =
       let e = with_anchors (more_anchors r d.anchors) d in
-      let h : d.anchors.count < 128 = leb-false _ _ p.few in
       let x : Extends d e = search arith in
       let k = carried d e x s.entries in
       let all = grown (AnchorPasses e.nodes) (anchor_at d.anchors) (anchor_at e.anchors) _ r (search old) (search (get_or-set_same, room)) k.anchors (anchor_more d e x _ r p) in
-      record { columns = search more; entries = search }
+      search more
 
   pub property_entered : d.properties < 32 → Loading (with_properties (d.properties + 1) d)
   property_entered h =
       let x : Extends d (with_properties (d.properties + 1) d) = search arith in
       let k = carried _ _ x s.entries in
-      record { columns = search; entries = search arith }
+      search arith
 
   pub rule_entered : (r : RuleRecord) → RuleEntry d.properties d.rules.count r → Loading (with_rules (more_rules r d.rules) d)
   rule_entered r p =
       let e = with_rules (more_rules r d.rules) d in
-      let h : d.rules.count < 32 = leb-false _ _ p.passes.few in
       let x : Extends d e = search arith in
       let k = carried d e x s.entries in
       let all = grown (RuleEntry e.properties) (rule_at d.rules) (rule_at e.rules) _ r (search old) (search (get_or-set_same, room)) k.rules p in
-      record { columns = search more; entries = search }
+      search more
 
   pub bind_entered : (r : BindRecord) → BindPasses d d.binds.count r → Loading (with_binds (more_binds r d.binds) d)
   bind_entered r p =
       let e = with_binds (more_binds r d.binds) d in
-      let h : d.binds.count < 64 = leb-false _ _ p.few in
       let x : Extends d e = search (old, arith) in
       let k = carried d e x s.entries in
       let all = grown (BindPasses e) (bind_at d.binds) (bind_at e.binds) _ r x.bind (search (get_or-set_same, room)) k.binds (bind_more d e x _ r (omega arith) p) in
-      record { columns = search more; entries = search }
+      search more
 
   pub port_entered : (r : PortRecord) → PortPasses d d.ports.count r → Loading (with_ports (more_ports r d.ports) d)
   port_entered r p =
       let e = with_ports (more_ports r d.ports) d in
-      let h : d.ports.count < 64 = leb-false _ _ p.few in
       let x : Extends d e = search (old, arith) in
       let k = carried d e x s.entries in
       let all = grown (PortPasses e) (port_at d.ports) (port_at e.ports) _ r x.port (search (get_or-set_same, room)) k.ports (port_more d e x _ r (omega arith) p) in
-      record { columns = search more; entries = search }
+      search more
 
   abbrev action_counts : Filled 0 d.links.count 64 d.links.action_counts
   action_counts = s.columns.links.1.1.1.1.1.0
@@ -105,19 +103,18 @@ module _ (d : Document) (s : Loading d) where
   link_entered r p =
       let t = d.links in
       let e = with_links (more_links r t) d.actions d in
-      let h : t.count < 64 = leb-false _ _ p.few in
       let x : Extends d e = search arith in
       let k = carried d e x s.entries in
       let all = grown (LinkPasses e) (link_at t) (link_at e.links) _ r (search old) (search (get_or-set_same, room)) k.links (link_more d e x _ r p) in
       let acts : (l j : ℕ) → l < t.count + 1 → j < action_count t l → ActionPasses e j (action_at d.actions l j)
-      = λ l j. below_more (λ l. j < action_count t l → ActionPasses e j (action_at d.actions l j)) t.count (λ l i. k.actions l j i) (λ i. absurd (omega (arith, action_counts.ends t.count (omega arith)))) l in
-      record { columns = search (more, longer); entries = search }
+      = λ l j h i. let none = action_counts.ends t.count in let passes = k.actions l j in grind arith in
+      search (more, longer)
 
   -- an action of the latest link
   pub action_entered : (r : ActionRecord) → ActionPasses d (action_count d.links (latest d.links)) r → Loading (with_action r d)
+  unfolding when◌then◌else◌
   action_entered r p =
       let t = d.links in
-      let a = d.actions in
       let n = action_count t (latest t) in
       let place = 8 * latest t + n in
       let e = with_action r d in
@@ -127,13 +124,13 @@ module _ (d : Document) (s : Loading d) where
       let x : Extends d e = search arith in
       let k = carried d e x s.entries in
       let fits : (m : ℕ) → m ≡ 8 * length t.action_counts → place < m = λ m q. omega arith in
-      let kept : (l j : ℕ) → (8 * l + j ≡ place → ⊥) → l < t.count → j < action_count t l → ActionPasses e j (action_at e.actions l j)
-      = λ l j u h i. search (get_or-set_other, k.actions) in
-      let added : ActionPasses e n (action_at e.actions (latest t) n) = search (get_or-set_same, fits, action_more d e x n r p) in
+      let added = action_more d e x n r p in
       let acts : (l j : ℕ) → l < t.count → j < action_count e.links l → ActionPasses e j (action_at e.actions l j)
-      = λ l j h. by_test (l =? latest t)
-      (λ b. rw (eqb-true l (latest t) b, get_or-set_same t.action_counts (latest t) (n + 1) 0 low)
-      (below_more (λ j. ActionPasses e j (action_at e.actions (latest t) j)) n (λ j i. kept (latest t) j (λ u. omega arith) last i) added j))
-      (λ b. rw (get_or-set_other t.action_counts (latest t) l (n + 1) 0 (eqb-false l (latest t) b))
-      (λ i. kept l j (λ u. omega (arith, eqb-false l (latest t) b, leb-false 8 j (k.actions l j h i).few)) h i)) in
-      record { columns = search (stored, slot_stored); entries = search }
+      = λ l j h i.
+      let passes = k.actions l j h in
+      let count = get_d_set t.action_counts (latest t) l (n + 1) 0 low in
+      let action = get_d_set d.actions.actions place (8 * l + j) r.action 0 (fits _ s.columns.actions.len) in
+      let target = get_d_set d.actions.targets place (8 * l + j) r.target 0 (fits _ s.columns.targets.len) in
+      let value = get_d_set d.actions.values place (8 * l + j) r.value (pos 0) (fits _ s.columns.values.len) in
+      grind arith in
+      search (stored, slot_stored)

@@ -1,15 +1,14 @@
 -- A document whose links have no switch above their owner: their owners are admitted. Each link, each line, the chain.
-use Prim.Native.Nat.{ℕ, zero, suc, ◌+◌, ◌<◌}
-use mathlib.Core.Bool.{true, ◌&&◌}
-use mathlib.Core.Path.{◌≡◌, refl, ap, ◌∙◌}
-use lib.ListN.{length, get_or}
-use Rattle.base.specs.Tests.{when◌then◌else◌, ◌<?◌, by_test}
+use Prim.Native.Nat.{ℕ, zero, suc, ◌<◌}
+use native.Mathlib.Omega.{arith}
+use mathlib.Core.Bool.{true}
+use mathlib.Core.Path.{◌≡◌, refl}
+use Rattle.base.specs.Tests.{when◌then◌else◌}
 use Rattle.base.specs.Loops.{every_each, ascending_same}
 use Rattle.machine.specs.Tables.{link_at}
-use Rattle.machine.specs.Log.{line}
 use Rattle.machine.specs.Events.{Run}
 use Rattle.machine.specs.Owners.{owner_chosen, any_owner}
-use Rattle.machine.specs.Chain.{fires, goes_on, link_tried, line_taken, lines_taken, chained}
+use Rattle.machine.specs.Chain.{fires, link_tried, line_taken, lines_taken, chained}
 use Rattle.machine.specs.Operations.{run_admitting, call_admitting}
 use Rattle.machine.specs.OwnersOutside.{owners_outside, OwnersHaveNoEffect}
 use Rattle.machine.specs.declared.Document.{Document}
@@ -28,15 +27,8 @@ module _ (d : Document) (outside : owners_outside d ≡ true) where
   lines_same : (most k : ℕ) (r : Run) → lines_taken owner_chosen d most k r ≡ lines_taken any_owner d most k r
   unfolding lines_taken when◌then◌else◌
   lines_same zero k r = refl
-  lines_same (suc most) k r =
-      by_test (goes_on r && k <? length r.log.lines)
-      (λ e. rw e (lines_same most (k + 1) _ ∙ ap (lines_taken any_owner d most (k + 1)) (line_same (get_or r.log.lines k (line 0 0 0)) r)))
-      (λ e. rw e)
-
-  chain_same : (r : Run) → chained owner_chosen d r ≡ chained any_owner d r
-  unfolding chained
-  chain_same r = lines_same r.log.room 0 r
+  lines_same (suc most) k r = let rest = lines_same most in grind (arith, line_same)
 
 pub owners_have_no_effect : OwnersHaveNoEffect
-unfolding call_admitting run_admitting
-owners_have_no_effect s c bytes e = rw (chain_same s.document e)
+unfolding call_admitting run_admitting chained
+owners_have_no_effect s c bytes e = let same = lines_same s.document e in grind arith

@@ -1,12 +1,12 @@
 -- The composite rule holds after every settling, whatever stood before: by descending id, because a child's id is above its parent's.
 use Prim.Native.Nat.{ℕ, suc, ◌≤◌, ◌<◌}
 use native.Mathlib.Omega.{arith}
-use mathlib.Core.Bool.{Bool, false, true≢false}
+use mathlib.Core.Bool.{Bool, false}
 use mathlib.Core.List.{List}
-use mathlib.Core.Path.{◌≡◌, sym, ap₂, ◌∙◌}
+use mathlib.Core.Path.{◌≡◌, ap₂}
 use lib.ListN.{get_or}
-use borrow.Author.Tests.{eqb-true, eqb-false}
-use Rattle.base.specs.Tests.{when◌then◌else◌, ◌=?◌, by_test}
+use Rattle.std.proofs.lemmas.Bool.Decides.{nat_tests}
+use Rattle.base.specs.Tests.{when◌then◌else◌}
 use Rattle.base.specs.Loops.{same_some, descending_turns}
 use Rattle.machine.specs.Terms.{occurring, paused, sleeping}
 use Rattle.machine.specs.Tables.{is_media, parent_of}
@@ -31,10 +31,7 @@ children_same nodes states other c h =
     ap₂ (λ (a b : Bool). when a then occurring else when b then paused else sleeping) (same_some _ _ _ (same occurring)) (same_some _ _ _ (same paused))
   where
     same : (state k : ℕ) → k < nodes.count → child_in nodes states state c k ≡ child_in nodes other state c k
-    same state k l =
-        by_test (parent_of nodes k =? c)
-        (λ e. rw (h k l (eqb-true _ _ e)))
-        (λ e. rw e)
+    same state k l = grind (arith, nat_tests, h k l)
 
 pub record Composed (d : Document) (s : State) : Type 0 where
   pub rule : (c : ℕ) → c < d.nodes.count → is_media d.nodes c ≡ false → node_state s c ≡ children_state d.nodes s.nodes.states c
@@ -49,12 +46,7 @@ module _ (d : Document) (sound : Sound d) where
   unfolding settled_one
   one_settled action target k y l f =
       chosen (From k) (is_media d.nodes k)
-      (λ e. record {
-        shaped = f.shaped;
-        rule = λ c kc cn u.
-            let other : c ≡ k → ⊥ = λ q. true≢false (sym e ∙ rw (← q) u) in
-            f.rule c (omega (arith, other)) cn u;
-      })
+      (λ e. record { shaped = f.shaped; rule = λ c kc cn u. grind (arith, nat_tests, f.rule c) })
       (λ _.
       let new = children_state d.nodes y.state.nodes.states k in
       let aborting = aborts_at d.nodes action target k in
@@ -63,15 +55,13 @@ module _ (d : Document) (sound : Sound d) where
       = λ c kc cn. children_same d.nodes _ _ c (λ i il e. m.only.state i (λ q. omega (arith, child_later sound.nodes il cn e))) in
       record {
         shaped = (shapes d).moves.node aborting k new y l f.shaped;
-        rule = λ c kc cn u. by_test (c =? k)
-            (λ q. rw (children c kc cn, eqb-true c k q) m.here)
-            (λ q. rw (children c kc cn, m.only.state c (eqb-false c k q)) (f.rule c (omega (arith, eqb-false c k q)) cn u));
+        rule = λ c kc cn u. rw (children c kc cn) (grind (arith, nat_tests, m.here, m.only.state c, f.rule c));
       })
 
   settled_composes : (action target : ℕ) (r : Run) → Shaped d r.state → Composed d (settled d.nodes action target r).state
   unfolding settled
   settled_composes action target r s =
-      let f = descending_turns From d.nodes.count r (record { shaped = s; rule = λ c kc cn u. absurd (omega arith) }) (λ k y l f. one_settled action target k y l f) in
+      let f = descending_turns From d.nodes.count r (record { shaped = s; rule = λ c kc cn u. absurd (omega arith) }) (one_settled action target) in
       record { rule = λ c cn u. f.rule c (omega arith) cn u }
 
   pub record RightRun (r : Run) : Type 0 where
@@ -93,8 +83,8 @@ module _ (d : Document) (sound : Sound d) where
       composed = settled_composes _ _ _ (media_ticked_keeps d (TimedRun d sound) sound (times d sound).moves r p.timed).shaped;
     };
     lines = record {
-      key = λ code r p. record { timed = timed_actions.lines.key code r p.timed; composed = p.composed };
-      firing = λ l r h p. record { timed = timed_actions.lines.firing l r h p.timed; composed = p.composed };
-      limit = λ r p. record { timed = timed_actions.lines.limit r p.timed; composed = p.composed };
+      key = λ code r p. search (timed_actions.lines.key);
+      firing = λ l r h p. search (timed_actions.lines.firing);
+      limit = λ r p. search (timed_actions.lines.limit);
     };
   }

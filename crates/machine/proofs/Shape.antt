@@ -3,7 +3,7 @@ use mathlib.Core.Bool.{true}
 use mathlib.Core.Path.{◌≡◌}
 use Prim.Native.Nat.{ℕ, ◌<◌}
 use lib.ListN.{get_or}
-use Rattle.base.specs.Tests.{both_pass}
+use Rattle.base.specs.Tests.{both_pass, pass_both}
 use Rattle.base.specs.Loops.{every_each, each_every}
 use Rattle.machine.specs.Tables.{node_event_table, anchor_event_table, property_event_table}
 use Rattle.machine.specs.Events.{Run, node_changed, node_to, anchor_changed, anchor_to, set_property, choice_made}
@@ -23,7 +23,7 @@ pub record Shaped (d : Document) (s : State) : Type 0 where
 
 pub state_ends : (d : Document) (s : State) → Shaped d s → state_ends_zero d s ≡ true
 unfolding state_ends_zero
-state_ends d s p = rw (whole_ends (node_event_table d.nodes.count s.nodes) p.nodes, whole_ends (anchor_event_table d.anchors.count s.anchors) p.anchors, whole_ends (property_event_table d.properties s.properties) p.properties)
+state_ends d s p = search (pass_both, whole_ends)
 
 pub choices_right_lem : (d : Document) (s : State) → Shaped d s → choices_right d.nodes s.choices ≡ true
 unfolding choices_right
@@ -58,13 +58,8 @@ module _ (d : Document) where
       node = λ aborting n new r h p. chosen ShapedRun _ (λ _. p) (λ _. search stored);
       anchor = λ aborting a new r h p. chosen ShapedRun _ (λ _. p) (λ _. search stored);
       clock = λ n clock r h p. search stored;
-      choice = λ n c r right p. record {
-        nodes = p.nodes;
-        anchors = p.anchors;
-        properties = p.properties;
-        choices = λ k h. stored_entry (choice_right d.nodes) r.state.choices n c k right (p.choices k h);
-      };
+      choice = λ n c r right p. search (stored_entry (choice_right d.nodes) r.state.choices n c, p.choices);
     };
     property = λ i value r h p. search stored;
-    lines = record { key = λ code r p. p; firing = λ l r h p. p; limit = λ r p. p };
+    lines = search;
   }

@@ -1,22 +1,21 @@
 -- What is known of tables that obey the load rules. Each rule gives its tests, each record of facts is put together of these.
-use Prim.Native.Nat.{ℕ, zero, suc, ◌<◌, ◌≤◌}
+use Prim.Native.Nat.{ℕ, ◌<◌, ◌≤◌}
 use native.Mathlib.Omega.{arith}
-use mathlib.Core.Bool.{true, false, ◌&&◌, ◌||◌, or-true, true≢false}
+use mathlib.Core.Bool.{true, false, ◌&&◌, ◌||◌}
 use mathlib.Core.List.{List}
-use mathlib.Core.Logic.{⊎_elim}
-use mathlib.Core.Path.{◌≡◌, refl, sym, ◌∙◌}
-use lib.Dec.{lit<}
+use mathlib.Core.Path.{◌≡◌, refl}
 use lib.IntN.{ℤ}
-use borrow.Author.Tests.{eqb-true, eqb-false, eq-eqb, ne_eqb, ltb-true, leb-true, leb-false, not-true, not-false}
-use Rattle.base.specs.Tests.{when◌then◌else◌, ◌=?◌, ◌<?◌, ◌≤?◌, by_test, both_pass, one_passes, no_fault}
-use Rattle.base.specs.Loops.{every, every_each, first, first_found}
-use Rattle.machine.specs.Terms.{context, media, switch, to_set, simple_rule, composite_rule, no_id}
+use borrow.Author.Tests.{eqb-true, eq-eqb, ne_eqb, ltb-true, leb-true, not-true}
+use Rattle.std.proofs.lemmas.Bool.Decides.{nat_tests}
+use Rattle.base.specs.Tests.{when◌then◌else◌, ◌=?◌, ◌<?◌, ◌≤?◌, both_pass}
+use Rattle.base.specs.Loops.{every_each, first_found}
+use Rattle.machine.specs.Terms.{context, media, switch, simple_rule, composite_rule, no_id}
 use Rattle.machine.specs.Tables.{type_of, parent_of, duration_of, is_media, given, node_at, anchor_at, rule_at, bind_at, port_at, link_at, action_count, action_at}
 use Rattle.machine.specs.Records.{node_fields_right, parent_right, node_fault, anchor_fault, property_fault, simple_rule_fault, composite_rule_fault, rule_fault, bind_fault, port_fault, link_fault, action_right, target_given, action_fault, subject_given, transition_right, is_default, is_port}
 use Rattle.base.specs.Loops.{some}
 use Rattle.machine.specs.Events.{bind_holds, found_bind}
 use Rattle.machine.specs.Broken.{node_obeys, anchor_obeys, property_obeys, rule_obeys, bind_obeys, port_obeys, action_obeys, link_obeys, tables_obey, rule_unused_zero, choice_right}
-use Rattle.machine.specs.Sound.{SoundNodes, SoundRules, Applicable, Sound}
+use Rattle.machine.specs.Sound.{SoundNodes, Applicable, Sound}
 use Rattle.machine.specs.declared.Nodes.{Nodes}
 use Rattle.machine.specs.declared.Document.{Document}
 use Rattle.machine.specs.declared.NodeRecord.{NodeRecord}
@@ -35,11 +34,8 @@ pub record NodePasses (nodes : Nodes) (id : ℕ) (r : NodeRecord) : Type 0 where
   pub parent : parent_right nodes id r ≡ true
 
 pub node_passes : (nodes : Nodes) (id : ℕ) (r : NodeRecord) → node_fault nodes id r ≡ 0 → NodePasses nodes id r
-unfolding node_fault
-node_passes nodes id r e =
-    let a = no_fault _ 4 _ (lit< tt) e in
-    let b = no_fault _ 5 _ (lit< tt) a.1 in
-    record { few = a.0; fields = not-false _ b.0; parent = not-false _ (no_fault _ 6 _ (lit< tt) b.1).0 }
+unfolding node_fault when◌then◌else◌
+node_passes nodes id r e = grind arith
 
 pub record AnchorPasses (nodes : Nodes) (id : ℕ) (r : AnchorRecord) : Type 0 where
   pub few : 128 ≤? id ≡ false
@@ -48,16 +44,12 @@ pub record AnchorPasses (nodes : Nodes) (id : ℕ) (r : AnchorRecord) : Type 0 w
   pub within : (duration_of nodes r.media =? 0 || r.end ≤? duration_of nodes r.media) ≡ true
 
 pub anchor_passes : (nodes : Nodes) (id : ℕ) (r : AnchorRecord) → anchor_fault nodes id r ≡ 0 → AnchorPasses nodes id r
-unfolding anchor_fault
-anchor_passes nodes id r e =
-    let a = no_fault _ 4 _ (lit< tt) e in
-    let b = no_fault _ 5 _ (lit< tt) a.1 in
-    let c = no_fault _ 6 _ (lit< tt) b.1 in
-    record { few = a.0; span = not-false _ b.0; owner = not-false _ c.0; within = not-false _ (no_fault _ 7 _ (lit< tt) c.1).0 }
+unfolding anchor_fault when◌then◌else◌
+anchor_passes nodes id r e = grind arith
 
 pub property_passes : (id : ℕ) → property_fault id ≡ 0 → 32 ≤? id ≡ false
-unfolding property_fault
-property_passes id e = (no_fault _ 4 _ (lit< tt) e).0
+unfolding property_fault when◌then◌else◌
+property_passes id e = grind arith
 
 pub record RulePasses (properties id : ℕ) (r : RuleRecord) : Type 0 where
   pub few : 32 ≤? id ≡ false
@@ -66,13 +58,7 @@ pub record RulePasses (properties id : ℕ) (r : RuleRecord) : Type 0 where
 
 pub rule_passes : (properties id : ℕ) (r : RuleRecord) → rule_fault properties id r ≡ 0 → RulePasses properties id r
 unfolding rule_fault simple_rule_fault composite_rule_fault when◌then◌else◌
-rule_passes properties id r e =
-    let a = no_fault _ 4 _ (lit< tt) e in
-    record {
-      few = a.0;
-      simple = λ k. let b = no_fault _ 5 _ (lit< tt) (rw k at a.1) in (b.0, not-false _ (no_fault _ 6 _ (lit< tt) b.1).0);
-      composite = λ k. let b = no_fault _ 5 _ (lit< tt) (rw k at a.1) in (b.0, not-false _ (no_fault _ 6 _ (lit< tt) b.1).0);
-    }
+rule_passes properties id r e = grind arith
 
 pub record BindPasses (d : Document) (id : ℕ) (r : BindRecord) : Type 0 where
   pub few : 64 ≤? id ≡ false
@@ -81,12 +67,8 @@ pub record BindPasses (d : Document) (id : ℕ) (r : BindRecord) : Type 0 where
   pub default : r.rule =? no_id && some (is_default d.binds r.switch) id ≡ false
 
 pub bind_passes : (d : Document) (id : ℕ) (r : BindRecord) → bind_fault d id r ≡ 0 → BindPasses d id r
-unfolding bind_fault
-bind_passes d id r e =
-    let a = no_fault _ 4 _ (lit< tt) e in
-    let b = no_fault _ 6 _ (lit< tt) a.1 in
-    let c = no_fault _ 7 _ (lit< tt) b.1 in
-    record { few = a.0; ids = not-false _ b.0; child = not-false _ c.0; default = (no_fault _ 7 _ (lit< tt) c.1).0 }
+unfolding bind_fault when◌then◌else◌
+bind_passes d id r e = grind arith
 
 pub record PortPasses (d : Document) (id : ℕ) (r : PortRecord) : Type 0 where
   pub few : 64 ≤? id ≡ false
@@ -95,12 +77,8 @@ pub record PortPasses (d : Document) (id : ℕ) (r : PortRecord) : Type 0 where
   pub once : some (is_port d.ports r) id ≡ false
 
 pub port_passes : (d : Document) (id : ℕ) (r : PortRecord) → port_fault d id r ≡ 0 → PortPasses d id r
-unfolding port_fault
-port_passes d id r e =
-    let a = no_fault _ 4 _ (lit< tt) e in
-    let b = no_fault _ 6 _ (lit< tt) a.1 in
-    let c = no_fault _ 7 _ (lit< tt) b.1 in
-    record { few = a.0; ids = not-false _ b.0; child = not-false _ c.0; once = (no_fault _ 7 _ (lit< tt) c.1).0 }
+unfolding port_fault when◌then◌else◌
+port_passes d id r e = grind arith
 
 pub record LinkPasses (d : Document) (id : ℕ) (r : LinkRecord) : Type 0 where
   pub few : 64 ≤? id ≡ false
@@ -108,11 +86,8 @@ pub record LinkPasses (d : Document) (id : ℕ) (r : LinkRecord) : Type 0 where
   pub ids : given d.nodes context r.owner && subject_given d r.class r.subject && (r.guard =? no_id || r.guard <? d.rules.count) ≡ true
 
 pub link_passes : (d : Document) (id : ℕ) (r : LinkRecord) → link_fault d id r ≡ 0 → LinkPasses d id r
-unfolding link_fault
-link_passes d id r e =
-    let a = no_fault _ 4 _ (lit< tt) e in
-    let b = no_fault _ 5 _ (lit< tt) a.1 in
-    record { few = a.0; fields = not-false _ b.0; ids = not-false _ (no_fault _ 6 _ (lit< tt) b.1).0 }
+unfolding link_fault when◌then◌else◌
+link_passes d id r e = grind arith
 
 pub record ActionPasses (d : Document) (id : ℕ) (r : ActionRecord) : Type 0 where
   pub few : 8 ≤? id ≡ false
@@ -120,11 +95,8 @@ pub record ActionPasses (d : Document) (id : ℕ) (r : ActionRecord) : Type 0 wh
   pub ids : 1 ≤? d.links.count && target_given d r.action r.target ≡ true
 
 pub action_passes : (d : Document) (id : ℕ) (r : ActionRecord) → action_fault d id r ≡ 0 → ActionPasses d id r
-unfolding action_fault
-action_passes d id r e =
-    let a = no_fault _ 4 _ (lit< tt) e in
-    let b = no_fault _ 5 _ (lit< tt) a.1 in
-    record { few = a.0; fields = not-false _ b.0; ids = not-false _ (no_fault _ 6 _ (lit< tt) b.1).0 }
+unfolding action_fault when◌then◌else◌
+action_passes d id r e = grind arith
 
 -- ---- tables that obey: the entries of d pass, asked against the tables of e
 
@@ -145,23 +117,16 @@ pub record Entries (d e : Document) : Type 0 where
 
 -- a table none of whose ids reaches the most that it holds
 few : (n most : ℕ) → ((i : ℕ) → i < n → most ≤? i ≡ false) → n ≤ most
-few zero most h = omega arith
-few (suc n) most h = leb-false _ _ (h n (omega arith))
+few n most h = grind (arith, nat_tests)
 
 rule_obeys_lem : (d : Document) (i : ℕ) → rule_obeys d i ≡ true → RuleEntry d.properties i (rule_at d.rules i)
 unfolding rule_obeys
-rule_obeys_lem d i e =
-    let r = rule_at d.rules i in
-    let p = both_pass ((r.kind =? simple_rule || r.kind =? composite_rule) && rule_fault d.properties i r =? 0) (rule_unused_zero r) e in
-    let q = both_pass (r.kind =? simple_rule || r.kind =? composite_rule) _ p.0 in
-    record { passes = rule_passes _ _ _ (eqb-true _ _ q.1); kind = q.0; unused = p.1 }
+rule_obeys_lem d i e = grind (arith, nat_tests, rule_passes)
 
 link_obeys_lem : (d : Document) (l : ℕ) → link_obeys d l ≡ true
     → LinkPasses d l (link_at d.links l) × ((j : ℕ) → j < action_count d.links l → ActionPasses d j (action_at d.actions l j))
 unfolding link_obeys action_obeys
-link_obeys_lem d l e =
-    let p = both_pass (link_fault d l (link_at d.links l) =? 0) (every (action_obeys d l) (action_count d.links l)) e in
-    (link_passes _ _ _ (eqb-true _ _ p.0), λ j h. action_passes _ _ _ (eqb-true _ _ (every_each (action_obeys d l) _ p.1 j h)))
+link_obeys_lem d l e = grind (arith, nat_tests, link_passes, action_passes, every_each (action_obeys d l) (action_count d.links l))
 
 pub record Obeyed (d : Document) : Type 0 where
   pub limit : 0 < d.limit
@@ -179,176 +144,116 @@ obeyed d e =
     let anchors = both_pass _ _ properties.0 in
     let nodes = both_pass _ _ anchors.0 in
     let least = both_pass _ _ nodes.0 in
-    let link : (l : ℕ) → l < d.links.count → _ = λ l h. link_obeys_lem d l (every_each (link_obeys d) _ links.1 l h) in
+    let link : (l : ℕ) → l < d.links.count → _ = λ l h. link_obeys_lem d l (every_each _ _ links.1 l h) in
     record {
       limit = leb-true _ _ least.0;
       root = leb-true _ _ least.1;
       entries = record {
-        nodes = λ n h. node_passes _ _ _ (eqb-true _ _ (every_each (node_obeys d) _ nodes.1 n h));
-        anchors = λ a h. anchor_passes _ _ _ (eqb-true _ _ (every_each (anchor_obeys d) _ anchors.1 a h));
-        properties = few d.properties 32 (λ i h. property_passes i (eqb-true _ _ (every_each (property_obeys d) _ properties.1 i h)));
-        rules = λ i h. rule_obeys_lem d i (every_each (rule_obeys d) _ rules.1 i h);
-        binds = λ b h. bind_passes _ _ _ (eqb-true _ _ (every_each (bind_obeys d) _ binds.1 b h));
-        ports = λ p h. port_passes _ _ _ (eqb-true _ _ (every_each (port_obeys d) _ ports.1 p h));
+        nodes = search (node_passes, eqb-true, every_each _ _ nodes.1);
+        anchors = search (anchor_passes, eqb-true, every_each _ _ anchors.1);
+        properties = search (few, property_passes, eqb-true, every_each _ _ properties.1);
+        rules = search (rule_obeys_lem, every_each _ _ rules.1);
+        binds = search (bind_passes, eqb-true, every_each _ _ binds.1);
+        ports = search (port_passes, eqb-true, every_each _ _ ports.1);
         links = λ l h. (link l h).0;
         actions = λ l j h k. (link l h).1 j k;
       };
     }
 
+-- ---- facts on numbers
+
 pub given_type : (nodes : Nodes) (type n : ℕ) → given nodes type n ≡ true → (n < nodes.count) × (type_of nodes n ≡ type)
-given_type nodes type n e = let p = both_pass _ _ e in (ltb-true _ _ p.0, eqb-true _ _ p.1)
-
-or_none : (id n : ℕ) → (id =? no_id || id <? n) ≡ true → (id ≡ no_id → ⊥) → id < n
-or_none id n e h = ⊎_elim (λ q. absurd (h (eqb-true _ _ q))) (λ q. ltb-true _ _ q) (one_passes _ _ e)
-
--- ---- the facts, of tables whose entries pass
+given_type nodes type n e = grind (arith, nat_tests)
 
 -- a child's parent is another node, so it is earlier; node 0 has none
 pub child_later : {nodes : Nodes} → SoundNodes nodes → {k c : ℕ} → k < nodes.count → c < nodes.count → parent_of nodes k ≡ c → c < k
-child_later {nodes} s {k} {c} l h e =
-    by_test (k =? 0)
-    (λ z. let q : parent_of nodes 0 ≡ c = rw (eqb-true k 0 z) at e in absurd (omega (arith, s.none, s.few, q)))
-    (λ z. let p : 0 < k = omega (arith, eqb-false k 0 z) in omega (arith, s.earlier k p l, e))
+child_later {nodes} s {k} {c} l h e = grind (arith, s.earlier k)
 
-module _ (d : Document) (o : Obeyed d) where
-  abbrev t : Entries d d
-  t = o.entries
+-- what the tests of an entry say
+record NodeFacts (nodes : Nodes) (n : ℕ) : Type 0 where
+  type : type_of nodes n ≤ switch
+  endless : is_media nodes n ≡ false → duration_of nodes n ≡ 0
+  root : n ≡ 0 → parent_of nodes n ≡ no_id
 
-  parent_of_lem : (n : ℕ) → 0 < n → n < d.nodes.count → (parent_of d.nodes n < n) × (is_media d.nodes (parent_of d.nodes n) ≡ false)
-  unfolding parent_right when◌then◌else◌
-  parent_of_lem n z h =
-      let p = both_pass _ _ (rw (ne_eqb n 0 (λ e. omega arith)) at (t.nodes n h).parent) in
-      (ltb-true _ _ p.0, not-true _ p.1)
+node_facts : (nodes : Nodes) (n : ℕ) → node_fields_right n (node_at nodes n) ≡ true → NodeFacts nodes n
+unfolding node_fields_right when◌then◌else◌
+node_facts nodes n e = grind (arith, nat_tests)
 
-  record Fields (n : ℕ) : Type 0 where
-    type : type_of d.nodes n ≤ switch
-    duration : (is_media d.nodes n || duration_of d.nodes n =? 0) ≡ true
-    root : n ≡ 0 → parent_of d.nodes n ≡ no_id
+record BindFacts (d : Document) (r : BindRecord) : Type 0 where
+  later : r.switch < r.child
+  child : r.child < d.nodes.count
+  rule : (r.rule ≡ no_id → ⊥) → r.rule < d.rules.count
+  choice : choice_right d.nodes r.switch r.child ≡ true
 
-  fields_of : (n : ℕ) → n < d.nodes.count → Fields n
-  unfolding node_fields_right when◌then◌else◌
-  fields_of n h =
-      let p = both_pass _ _ (t.nodes n h).fields in
-      let q = both_pass _ _ p.0 in
-      record { type = leb-true _ _ q.0; duration = q.1; root = λ z. eqb-true _ _ (both_pass (type_of d.nodes n =? context) _ (rw (eq-eqb n 0 z) at p.1)).1 }
+bind_facts : (d : Document) (id : ℕ) (r : BindRecord) → SoundNodes d.nodes → BindPasses d id r → BindFacts d r
+unfolding choice_right
+bind_facts d id r s p = grind (arith, nat_tests, child_later s {k = r.child} {c = r.switch})
 
-  sound_nodes : SoundNodes d.nodes
-  sound_nodes = record {
-    few = few d.nodes.count 64 (λ i h. (t.nodes i h).few);
-    root = o.root;
-    types = λ n h. (fields_of n h).type;
-    earlier = λ n z h. (parent_of_lem n z h).0;
-    composite = λ n z h. (parent_of_lem n z h).1;
-    none = (fields_of 0 o.root).root refl;
-    endless = λ n h c. ⊎_elim (λ e. absurd (true≢false (sym e ∙ c))) (λ e. eqb-true _ _ e) (one_passes _ _ (fields_of n h).duration);
-  }
+port_facts : (d : Document) (id : ℕ) (r : PortRecord) → SoundNodes d.nodes → PortPasses d id r → (r.context < r.child) × (r.child < d.nodes.count)
+port_facts d id r s p = grind (arith, nat_tests, child_later s {k = r.child} {c = r.context})
 
-  earlier_rules : (i : ℕ) → i < d.rules.count → ((rule_at d.rules i).kind ≡ simple_rule → ⊥) → ((rule_at d.rules i).left < i) × ((rule_at d.rules i).right < i)
-  earlier_rules i h k = let p = both_pass _ _ ((t.rules i h).passes.composite (ne_eqb _ _ k)).1 in (ltb-true _ _ p.0, ltb-true _ _ p.1)
-
-  sound_rules : SoundRules d.properties d.rules
-  sound_rules = record {
-    few = few d.rules.count 32 (λ i h. (t.rules i h).passes.few);
-    property = λ i h k. ltb-true _ _ ((t.rules i h).passes.simple (eq-eqb _ _ k)).1;
-    left = λ i h k. (earlier_rules i h k).0;
-    right = λ i h k. (earlier_rules i h k).1;
-  }
-
-  -- an anchor, a bind, a port, a link and an action, as facts on numbers
-  anchor_owner : (a : ℕ) → a < d.anchors.count → ((anchor_at d.anchors a).media < d.nodes.count) × (is_media d.nodes (anchor_at d.anchors a).media ≡ true)
-  anchor_owner a h = let p = given_type d.nodes media _ (t.anchors a h).owner in (p.0, eq-eqb _ _ p.1)
-
-  anchor_end : (a : ℕ) → a < d.anchors.count → 0 < duration_of d.nodes (anchor_at d.anchors a).media
-      → (anchor_at d.anchors a).end ≤ duration_of d.nodes (anchor_at d.anchors a).media
-  anchor_end a h z = ⊎_elim (λ (e : duration_of d.nodes (anchor_at d.anchors a).media =? 0 ≡ true). absurd (omega (arith, eqb-true (duration_of d.nodes (anchor_at d.anchors a).media) 0 e))) (λ e. leb-true _ _ e) (one_passes _ _ (t.anchors a h).within)
-
-  record BindFacts (b : ℕ) : Type 0 where
-    later : (bind_at d.binds b).switch < (bind_at d.binds b).child
-    child : (bind_at d.binds b).child < d.nodes.count
-    rule : ((bind_at d.binds b).rule ≡ no_id → ⊥) → (bind_at d.binds b).rule < d.rules.count
-    choice : choice_right d.nodes (bind_at d.binds b).switch (bind_at d.binds b).child ≡ true
-
-  bind_facts : (b : ℕ) → b < d.binds.count → BindFacts b
-  unfolding choice_right
-  bind_facts b h =
-      let p = both_pass _ _ (t.binds b h).ids in
-      let q = both_pass _ _ p.0 in
-      let c = ltb-true _ _ q.1 in
-      record {
-        later = child_later sound_nodes c (given_type d.nodes switch _ q.0).0 (eqb-true _ _ (t.binds b h).child);
-        child = c;
-        rule = or_none _ _ p.1;
-        choice = rw (q.0, q.1, (t.binds b h).child) (or-true ((bind_at d.binds b).child =? 0));
-      }
-
-  port_facts : (p : ℕ) → p < d.ports.count → ((port_at d.ports p).context < (port_at d.ports p).child) × ((port_at d.ports p).child < d.nodes.count)
-  port_facts p h =
-      let q = both_pass _ _ (t.ports p h).ids in
-      let c = ltb-true _ _ q.1 in
-      (child_later sound_nodes c (given_type d.nodes context _ q.0).0 (eqb-true _ _ (t.ports p h).child), c)
-
-  link_guard : (l : ℕ) → l < d.links.count → ((link_at d.links l).guard ≡ no_id → ⊥) → (link_at d.links l).guard < d.rules.count
-  link_guard l h =
-      let r = link_at d.links l in
-      or_none _ _ (both_pass (given d.nodes context r.owner && subject_given d r.class r.subject) _ (t.links l h).ids).1
-
-  link_owner : (l : ℕ) → l < d.links.count → (link_at d.links l).owner < d.nodes.count
-  link_owner l h =
-      let r = link_at d.links l in
-      (given_type d.nodes context _ (both_pass _ _ (both_pass (given d.nodes context r.owner && subject_given d r.class r.subject) _ (t.links l h).ids).0).0).0
-
--- the bind that a switch finds is one of its own
-pub bind_own : (d : Document) (values : List ℤ) (n b : ℕ) → b ≡ found_bind d.binds d.rules values n → b < d.binds.count → (bind_at d.binds b).switch ≡ n
-unfolding found_bind when◌then◌else◌ bind_holds
-bind_own d values n b e h =
-    let count = d.binds.count in
-    let i = first (bind_holds d.binds d.rules values n) count 0 in
-    let j = first (is_default d.binds n) count 0 in
-    by_test (i <? count)
-    (λ t.
-    let s : b ≡ i = e ∙ rw t in
-    rw s (eqb-true _ _ (both_pass _ _ (both_pass _ _ (first_found (bind_holds d.binds d.rules values n) count 0 (omega (arith, ltb-true i count t)))).0).0))
-    (λ t.
-    let s : b ≡ j = e ∙ rw t in
-    rw s (eqb-true _ _ (both_pass _ _ (first_found (is_default d.binds n) count 0 (omega arith))).0))
+link_facts : (d : Document) (id : ℕ) (r : LinkRecord) → LinkPasses d id r → (r.owner < d.nodes.count) × ((r.guard ≡ no_id → ⊥) → r.guard < d.rules.count)
+link_facts d id r p = grind (arith, nat_tests)
 
 -- an action of a link, or of a command, that passes its two tests
 pub applicable : (d : Document) (a : ActionRecord) → action_right a.action a.value ≡ true → target_given d a.action a.target ≡ true → Applicable d a
 unfolding action_right target_given when◌then◌else◌
-applicable d a right given =
-    let range = both_pass _ _ (both_pass _ _ right).0 in
-    record {
-      least = leb-true _ _ range.0;
-      most = leb-true _ _ range.1;
-      node = λ n. ltb-true _ _ (rw (ne_eqb a.action to_set n) at given);
-      property = λ e. ltb-true _ _ (rw (eq-eqb a.action to_set e) at given);
-    }
+applicable d a right given = grind (arith, nat_tests)
+
+-- the bind that a switch finds is one of its own
+pub bind_own : (d : Document) (values : List ℤ) (n b : ℕ) → b ≡ found_bind d.binds d.rules values n → b < d.binds.count → (bind_at d.binds b).switch ≡ n
+unfolding found_bind when◌then◌else◌ bind_holds
+bind_own d values n b e h = grind (arith, nat_tests, first_found)
+
+-- a node's parent is an earlier composite
+parent_of_lem : (d : Document) (o : Obeyed d) (n : ℕ) → 0 < n → n < d.nodes.count → (parent_of d.nodes n < n) × (is_media d.nodes (parent_of d.nodes n) ≡ false)
+unfolding parent_right when◌then◌else◌
+parent_of_lem d o n z h =
+    let p = both_pass _ _ (rw (ne_eqb n 0 (λ e. omega arith)) at (o.entries.nodes n h).parent) in
+    (ltb-true _ _ p.0, not-true _ p.1)
 
 pub sound : (d : Document) → tables_obey d ≡ true → Sound d
 sound d e =
     let o = obeyed d e in
     let t = o.entries in
+    let node : (n : ℕ) → n < d.nodes.count → NodeFacts d.nodes n = λ n h. node_facts d.nodes n (t.nodes n h).fields in
+    let nodes : SoundNodes d.nodes
+    = record {
+      few = few d.nodes.count 64 (λ n h. (t.nodes n h).few);
+      root = o.root;
+      types = λ n h. (node n h).type;
+      earlier = λ n z h. (parent_of_lem d o n z h).0;
+      composite = λ n z h. (parent_of_lem d o n z h).1;
+      none = (node 0 o.root).root refl;
+      endless = λ n h. (node n h).endless;
+    } in
+    let bind : (b : ℕ) → b < d.binds.count → BindFacts d (bind_at d.binds b) = λ b h. bind_facts d b _ nodes (t.binds b h) in
     record {
       limit = o.limit;
-      nodes = sound_nodes d o;
-      anchors = few d.anchors.count 128 (λ i h. (t.anchors i h).few);
-      anchor_media = λ a h. (anchor_owner d o a h).0;
-      anchor_type = λ a h. (anchor_owner d o a h).1;
+      nodes = nodes;
+      anchors = few d.anchors.count 128 (λ a h. (t.anchors a h).few);
+      anchor_media = λ a h. ltb-true _ _ (both_pass _ _ (t.anchors a h).owner).0;
+      anchor_type = λ a h. (both_pass _ _ (t.anchors a h).owner).1;
       anchor_span = λ a h. ltb-true _ _ (t.anchors a h).span;
-      anchor_within = anchor_end d o;
+      anchor_within = λ a h z. let p = (t.anchors a h).within in grind (arith, nat_tests);
       properties = t.properties;
-      rules = sound_rules d o;
-      binds = few d.binds.count 64 (λ i h. (t.binds i h).few);
-      bind_later = λ b h. (bind_facts d o b h).later;
-      bind_child = λ b h. (bind_facts d o b h).child;
-      bind_rule = λ b h. (bind_facts d o b h).rule;
-      bind_choice = λ b h. (bind_facts d o b h).choice;
-      ports = few d.ports.count 64 (λ i h. (t.ports i h).few);
-      port_later = λ p h. (port_facts d o p h).0;
-      port_child = λ p h. (port_facts d o p h).1;
-      links = few d.links.count 64 (λ i h. (t.links i h).few);
-      link_owner = link_owner d o;
-      link_guard = link_guard d o;
+      rules = record {
+        few = few d.rules.count 32 (λ i h. (t.rules i h).passes.few);
+        property = λ i h k. ltb-true _ _ ((t.rules i h).passes.simple (eq-eqb _ _ k)).1;
+        left = λ i h k. ltb-true _ _ (both_pass _ _ ((t.rules i h).passes.composite (ne_eqb _ _ k)).1).0;
+        right = λ i h k. ltb-true _ _ (both_pass _ _ ((t.rules i h).passes.composite (ne_eqb _ _ k)).1).1;
+      };
+      binds = few d.binds.count 64 (λ b h. (t.binds b h).few);
+      bind_later = λ b h. (bind b h).later;
+      bind_child = λ b h. (bind b h).child;
+      bind_rule = λ b h. (bind b h).rule;
+      bind_choice = λ b h. (bind b h).choice;
+      ports = few d.ports.count 64 (λ p h. (t.ports p h).few);
+      port_later = λ p h. (port_facts d p _ nodes (t.ports p h)).0;
+      port_child = λ p h. (port_facts d p _ nodes (t.ports p h)).1;
+      links = few d.links.count 64 (λ l h. (t.links l h).few);
+      link_owner = λ l h. (link_facts d l _ (t.links l h)).0;
+      link_guard = λ l h. (link_facts d l _ (t.links l h)).1;
       actions = λ l h. few (action_count d.links l) 8 (λ j k. (t.actions l j h k).few);
       link_action = λ l j h k. applicable d _ (t.actions l j h k).fields (both_pass (1 ≤? d.links.count) _ (t.actions l j h k).ids).1;
     }

@@ -2,15 +2,12 @@
 -- Kept by the smallest steps, because a state changes and its line is logged together.
 use Prim.Native.Nat.{ℕ, ◌+◌, ◌%◌, ◌<◌}
 use native.Mathlib.Omega.{arith}
-use mathlib.Core.Bool.{Bool, false, and-false}
-use mathlib.Core.List.{List, [], ◌∷◌, ◌++◌}
-use mathlib.Core.Path.{◌≡◌, refl, sym, ◌∙◌}
+use mathlib.Core.Bool.{Bool}
+use mathlib.Core.List.{List, [], ◌∷◌, ◌++◌, append_assoc}
+use mathlib.Core.Path.{◌≡◌}
 use lib.IntN.{ℤ}
-use lib.Dec.{lit<}
-use lib.Seq.{get_or-set_same, get_or-set_other}
-use borrow.Author.Tests.{eqb-true, eqb-false, eq-eqb, ne_eqb}
-use Rattle.base.specs.Tests.{when◌then◌else◌, ◌=?◌, by_test}
-use Rattle.machine.specs.Terms.{sleeping, occurring, starts, stops, aborts, of_node, of_anchor, of_property, no_transition}
+use Rattle.base.specs.Tests.{when◌then◌else◌, ◌=?◌}
+use Rattle.machine.specs.Terms.{sleeping, starts, stops, aborts, of_node, of_anchor, of_property}
 use Rattle.machine.specs.Log.{line}
 use Rattle.machine.specs.Events.{Run, node_state, node_count, anchor_state, anchor_count, property_count, transition, counted, with_node, with_anchor, with_value, node_changed, node_to, anchor_changed, anchor_to, set_property, choice_made}
 use Rattle.machine.specs.Tick.{keyed}
@@ -22,7 +19,8 @@ use Rattle.machine.specs.declared.State.{State}
 use Rattle.machine.specs.declared.Line.{Line}
 use Rattle.machine.proofs.Keep.{Primitives}
 use Rattle.machine.proofs.Shape.{Shaped, shapes}
-use Rattle.machine.proofs.Growing.{met_stops, one_more}
+use Rattle.machine.proofs.Growing.{line_logged}
+use Rattle.machine.proofs.Effects.{get_d_set}
 
 unfoldable pub one_if : Bool → ℕ
 one_if b = when b then 1 else 0
@@ -32,19 +30,6 @@ unfolding number one_if
 number_more test [] l = omega arith
 number_more test (x ∷ ls) l = omega (arith, number_more test ls l)
 
--- a line that is none of these counts nothing
-number_same : (test : Line → Bool) (ls : List Line) (l : Line) → test l ≡ false → number test (ls ++ (l ∷ [])) ≡ number test ls
-unfolding one_if when◌then◌else◌
-number_same test ls l e = number_more test ls l ∙ rw e (omega arith)
-
-is_line_own : (class id t u : ℕ) → is_line class id t (line class id u) ≡ u =? t
-unfolding is_line
-is_line_own class id t u = rw (eq-eqb class class refl, eq-eqb id id refl)
-
-is_line_other : (class id t j u : ℕ) → (j ≡ id → ⊥) → is_line class j t (line class id u) ≡ false
-unfolding is_line
-is_line_other class id t j u d = rw (ne_eqb id j (λ e. d (sym e)), and-false)
-
 -- ---- each transition keeps the balance
 
 unfoldable pub one_if_awake : ℕ → ℕ
@@ -53,16 +38,7 @@ one_if_awake state = when state =? sleeping then 0 else 1
 balance : (aborting : Bool) (old new : ℕ) → let u = transition aborting old new in
     one_if (u =? starts) + one_if_awake old ≡ one_if (u =? stops) + one_if (u =? aborts) + one_if_awake new
 unfolding transition one_if one_if_awake when◌then◌else◌
-balance aborting old new =
-    by_test (old =? new)
-    (λ e. rw (e, eqb-true old new e))
-    (λ e. by_test (new =? 0)
-    (λ n.
-    let o = ne_eqb old 0 (λ q. eqb-false old new e (q ∙ sym (eqb-true new 0 n))) in
-    by_test aborting (λ a. rw (e, n, o, a)) (λ a. rw (e, n, o, a)))
-    (λ n. by_test (old =? 0)
-    (λ o. rw (e, n, o))
-    (λ o. by_test (new =? 1) (λ p. rw (e, n, o, p)) (λ p. rw (e, n, o, p)))))
+balance aborting old new = grind arith
 
 -- ---- an event's state and count, against lines
 
@@ -72,25 +48,7 @@ pub record EventTallied (class id state count : ℕ) (ls : List Line) : Type 0 w
 
 count_more : (u count x : ℕ) → count ≡ x % 4_294_967_296 → counted u count ≡ (x + one_if (u =? stops)) % 4_294_967_296
 unfolding counted one_if when◌then◌else◌
-count_more u count x e = by_test (u =? stops) (λ q. rw q (omega arith)) (λ q. rw q (omega arith))
-
-module _ {class id state count : ℕ} {ls : List Line} (e : EventTallied class id state count ls) where
-  -- a line of another event
-  tallied_same : (l : Line) → ((t : ℕ) → is_line class id t l ≡ false) → EventTallied class id state count (ls ++ (l ∷ []))
-  tallied_same l other =
-      let same : (t : ℕ) → number (is_line class id t) (ls ++ (l ∷ [])) ≡ number (is_line class id t) ls = λ t. number_same (is_line class id t) ls l (other t) in
-      record { balances = rw (same starts, same stops, same aborts) e.balances; counts = rw (same stops) e.counts }
-
-  -- the line of its own transition
-  tallied_moved : (aborting : Bool) (new : ℕ) → let u = transition aborting state new in EventTallied class id new (counted u count) (ls ++ (line class id u ∷ []))
-  tallied_moved aborting new =
-      let u : ℕ = transition aborting state new in
-      let more : (t : ℕ) → number (is_line class id t) (ls ++ (line class id u ∷ [])) ≡ number (is_line class id t) ls + one_if (u =? t)
-      = λ t. number_more (is_line class id t) ls (line class id u) ∙ rw (is_line_own class id t u) in
-      record {
-        balances = omega (arith, e.balances, more starts, more stops, more aborts, balance aborting state new);
-        counts = rw (more stops) (count_more u count (stops_of class id ls) e.counts);
-      }
+count_more u count x e = grind arith
 
 -- ---- a state against all lines so far; a property is an event that sleeps again after each set
 
@@ -106,83 +64,36 @@ module _ (h : List Line) (d : Document) (sound : Sound d) where
   TalliedRun r = Shaped d r.state × (r.log.stop ≡ 0 → Tallied d r.state (h ++ r.log.lines))
 
   -- the line of a key or of a firing
-  tallied_still : (s : State) (l : Line) → ((i t : ℕ) → is_line of_node i t l ≡ false) → ((i t : ℕ) → is_line of_anchor i t l ≡ false) → ((i t : ℕ) → is_line of_property i t l ≡ false)
-      → (ls : List Line) → Tallied d s ls → Tallied d s (ls ++ (l ∷ []))
-  tallied_still s l n a p ls t = record {
-    nodes = λ i k. tallied_same (t.nodes i k) l (n i);
-    anchors = λ i k. tallied_same (t.anchors i k) l (a i);
-    properties = λ i k. tallied_same (t.properties i k) l (p i);
-  }
+  tallied_still : (class id u : ℕ) (s : State) → (class ≡ of_node → ⊥) → (class ≡ of_anchor → ⊥) → (class ≡ of_property → ⊥)
+      → (ls : List Line) → Tallied d s ls → Tallied d s (ls ++ (line class id u ∷ []))
+  unfolding is_line one_if when◌then◌else◌
+  tallied_still class id u s n a p ls t = grind (arith, number_more)
 
   node_moved : (aborting : Bool) (n new clock : ℕ) (s : State) → n < d.nodes.count → Shaped d s → let u = transition aborting (node_state s n) new in
       (ls : List Line) → Tallied d s ls → Tallied d (with_node n new clock (counted u (node_count s n)) s) (ls ++ (line of_node n u ∷ []))
-  unfolding is_line
-  node_moved aborting n new clock s k p ls t = record {
-    nodes = λ i l. by_test (i =? n)
-        (λ q. rw (eqb-true i n q, get_or-set_same s.nodes.states n new 0 (omega (arith, sound.nodes.few, p.nodes.0.len)), get_or-set_same s.nodes.counts n _ 0 (omega (arith, sound.nodes.few, p.nodes.1.1.0.len)))
-        (tallied_moved (t.nodes n k) aborting new))
-        (λ q.
-        let e = eqb-false i n q in
-        rw (get_or-set_other s.nodes.states n i new 0 e, get_or-set_other s.nodes.counts n i _ 0 e) (tallied_same (t.nodes i l) _ (λ c. is_line_other of_node n c i _ e)));
-    anchors = λ i l. tallied_same (t.anchors i l) _ (λ _. refl);
-    properties = λ i l. tallied_same (t.properties i l) _ (λ _. refl);
-  }
+  unfolding is_line one_if when◌then◌else◌
+  node_moved aborting n new clock s k p ls t = let kept = balance aborting (node_state s n) new in grind (arith, sound.nodes, number_more, count_more, get_d_set)
 
   anchor_moved_lem : (aborting : Bool) (a new : ℕ) (s : State) → a < d.anchors.count → Shaped d s → let u = transition aborting (anchor_state s a) new in
       (ls : List Line) → Tallied d s ls → Tallied d (with_anchor a new (counted u (anchor_count s a)) s) (ls ++ (line of_anchor a u ∷ []))
-  unfolding is_line
-  anchor_moved_lem aborting a new s k p ls t = record {
-    nodes = λ i l. tallied_same (t.nodes i l) _ (λ _. refl);
-    anchors = λ i l. by_test (i =? a)
-        (λ q. rw (eqb-true i a q, get_or-set_same s.anchors.states a new 0 (omega (arith, sound.anchors, p.anchors.0.len)), get_or-set_same s.anchors.counts a _ 0 (omega (arith, sound.anchors, p.anchors.1.0.len)))
-        (tallied_moved (t.anchors a k) aborting new))
-        (λ q.
-        let e = eqb-false i a q in
-        rw (get_or-set_other s.anchors.states a i new 0 e, get_or-set_other s.anchors.counts a i _ 0 e) (tallied_same (t.anchors i l) _ (λ c. is_line_other of_anchor a c i _ e)));
-    properties = λ i l. tallied_same (t.properties i l) _ (λ _. refl);
-  }
+  unfolding is_line one_if when◌then◌else◌
+  anchor_moved_lem aborting a new s k p ls t = let kept = balance aborting (anchor_state s a) new in grind (arith, number_more, count_more, get_d_set)
 
   -- a set starts a property and stops it
   property_set : (p : ℕ) (value : ℤ) (s : State) → p < d.properties → Shaped d s
       → (ls : List Line) → Tallied d s ls → Tallied d (with_value p value (counted stops (property_count s p)) s) ((ls ++ (line of_property p starts ∷ [])) ++ (line of_property p stops ∷ []))
-  unfolding is_line transition counted when◌then◌else◌
-  property_set p value s k w ls t = record {
-    nodes = λ i l. tallied_same (tallied_same (t.nodes i l) _ (λ _. refl)) _ (λ _. refl);
-    anchors = λ i l. tallied_same (tallied_same (t.anchors i l) _ (λ _. refl)) _ (λ _. refl);
-    properties = λ i l. by_test (i =? p)
-        (λ q. rw (eqb-true i p q, get_or-set_same s.properties.counts p _ 0 (omega (arith, sound.properties, w.properties.1.0.len)))
-        (tallied_moved (tallied_moved (t.properties p k) false occurring) false sleeping))
-        (λ q.
-        let e = eqb-false i p q in
-        rw (get_or-set_other s.properties.counts p i _ 0 e)
-        (tallied_same (tallied_same (t.properties i l) _ (λ c. is_line_other of_property p c i _ e)) _ (λ c. is_line_other of_property p c i _ e)));
-  }
+  unfolding is_line one_if when◌then◌else◌
+  property_set p value s k w ls t = grind (arith, number_more, count_more, get_d_set)
 
   pub tallies : Primitives d TalliedRun
-  unfolding node_to node_changed anchor_to anchor_changed set_property choice_made keyed firing_logged limit_met is_line when◌then◌else◌
+  unfolding node_to node_changed anchor_to anchor_changed set_property choice_made keyed firing_logged limit_met when◌then◌else◌
   tallies = record {
     moves = record {
-      node = λ aborting n new r k p. (
-        (shapes d).moves.node aborting n new r k p.0,
-        by_test (transition aborting (node_state r.state n) new =? no_transition) (λ e. rw e p.1)
-            (λ e. rw e (one_more h (Tallied d r.state) (Tallied d _) _ r.log (node_moved aborting n new _ r.state k p.0) p.1)),
-      );
-      anchor = λ aborting a new r k p. (
-        (shapes d).moves.anchor aborting a new r k p.0,
-        by_test (transition aborting (anchor_state r.state a) new =? no_transition) (λ e. rw e p.1)
-            (λ e. rw e (one_more h (Tallied d r.state) (Tallied d _) _ r.log (anchor_moved_lem aborting a new r.state k p.0) p.1)),
-      );
-      clock = λ n clock r k p. ((shapes d).moves.clock n clock r k p.0, λ f. record { nodes = (p.1 f).nodes; anchors = (p.1 f).anchors; properties = (p.1 f).properties });
-      choice = λ n c r right p. ((shapes d).moves.choice n c r right p.0, λ f. record { nodes = (p.1 f).nodes; anchors = (p.1 f).anchors; properties = (p.1 f).properties });
+      node = grind (arith, (shapes d).moves.node, node_moved, line_logged, append_assoc);
+      anchor = grind (arith, (shapes d).moves.anchor, anchor_moved_lem, line_logged, append_assoc);
+      clock = grind (arith, (shapes d).moves.clock);
+      choice = grind (arith, (shapes d).moves.choice);
     };
-    property = λ i value r k p. (
-      (shapes d).property i value r k p.0,
-      let Then : List Line → Type 0 = λ ls. Tallied d (set_property i value r).state (ls ++ (line of_property i stops ∷ [])) in
-          one_more h Then (Tallied d _) _ _ (λ ls q. q) (one_more h (Tallied d r.state) Then _ r.log (property_set i value r.state k p.0) p.1),
-    );
-    lines = record {
-      key = λ code r p. (p.0, one_more h (Tallied d r.state) (Tallied d r.state) _ r.log (tallied_still _ _ (λ _ _. refl) (λ _ _. refl) (λ _ _. refl)) p.1);
-      firing = λ l r _ p. (p.0, one_more h (Tallied d r.state) (Tallied d r.state) _ r.log (tallied_still _ _ (λ _ _. refl) (λ _ _. refl) (λ _ _. refl)) p.1);
-      limit = λ r p. (p.0, λ f. absurd (met_stops 11 r.log (lit< tt) f));
-    };
+    property = λ i value r k p. ((shapes d).property i value r k p.0, grind (arith, property_set i value r.state k p.0, line_logged, append_assoc));
+    lines = grind (arith, line_logged, tallied_still, append_assoc);
   }

@@ -1,18 +1,17 @@
 -- States, clocks and anchors of the nodes: kept by every whole step of a node.
-use Prim.Native.Nat.{ℕ, zero, suc, ◌+◌, ◌-◌, ◌≤◌, ◌<◌}
-use native.Mathlib.Numerals.{sub-one}
+use Prim.Native.Nat.{ℕ, ◌+◌, ◌≤◌, ◌<◌}
 use native.Mathlib.Omega.{arith}
-use mathlib.Core.Bool.{Bool, true, false, not, ◌&&◌, true≢false}
-use mathlib.Core.List.{List, [], ◌∷◌}
-use mathlib.Core.Path.{◌≡◌, refl, sym, ◌∙◌}
-use lib.Dec.{lit≤, eqb-suc-zero, leb-suc-zero}
-use lib.ListN.{length, get_or, set}
+use mathlib.Core.Bool.{Bool, true, false}
+use mathlib.Core.Path.{◌≡◌, ◌∙◌}
+use lib.Dec.{lit≤}
+use lib.ListN.{length, set}
 use lib.Seq.{get_or-set_same, get_or-set_other}
-use borrow.Author.Tests.{eqb-true, eqb-false, eq-eqb, ne_eqb, lt-ltb, le-ltb, le-leb, lt-leb, ltb-true, ltb-false, leb-true, leb-false}
-use Rattle.base.specs.Tests.{when◌then◌else◌, ◌=?◌, ◌<?◌, ◌≤?◌, by_test}
+use borrow.Author.Tests.{eqb-true, eqb-false, ne_eqb}
+use Rattle.std.proofs.lemmas.Bool.Decides.{nat_tests}
+use Rattle.base.specs.Tests.{when◌then◌else◌, ◌=?◌}
 use Rattle.machine.specs.Terms.{sleeping, occurring, paused, to_start, to_stop, to_abort}
 use Rattle.machine.specs.Tables.{is_media, duration_of, anchor_at}
-use Rattle.machine.specs.Events.{Run, node_state, node_clock, anchor_state, next_states, next_state, with_state, begins_at, ends_at, is_awake, follows, node_to, set_property, choice_made, anchors_moved, media_to, media_moved}
+use Rattle.machine.specs.Events.{Run, node_state, node_clock, anchor_state, next_state, with_state, begins_at, ends_at, is_awake, follows, node_to, set_property, choice_made, anchors_moved, media_to, media_moved}
 use Rattle.machine.specs.Tick.{with_clock, anchors_passed, passed, ticked_one, keyed}
 use Rattle.machine.specs.Chain.{firing_logged, limit_met}
 use Rattle.machine.specs.Broken.{anchor_state_in}
@@ -24,100 +23,28 @@ use Rattle.machine.proofs.Keep.{Steps, steps, anchors_passed_keep, passed_keeps,
 use Rattle.machine.proofs.Shape.{Shaped, ShapedRun, shapes}
 use Rattle.machine.proofs.Effects.{moved_from, RunOnly, RunMoved, node_moves, node_leaves_anchors, moving, Passed, anchors_pass}
 
--- ---- the rule's arithmetic: starting, moving, one tick
-
 pub choice_same : (w : Bool) (x : ℕ) → (when w then x else x) ≡ x
 unfolding when◌then◌else◌
-choice_same true x = refl
-choice_same false x = refl
-
-begins_zero : (b e : ℕ) → b < e → b =? 0 ≡ (b ≤? 0 && 0 <? e)
-begins_zero zero e h = sym (lt-ltb 0 e h)
-begins_zero (suc b) e h = rw (eqb-suc-zero b, leb-suc-zero b)
-
-moves_rule : (w : Bool) (s n z : ℕ) → Awake s → z ≡ (when w then s else 0) → (when not (z =? 0) then n else z) ≡ (when w then n else 0)
-unfolding when◌then◌else◌
-moves_rule true s n z d e = rw (e, ne_eqb s 0 d)
-moves_rule false s n z d e = rw e
-
-sleeps_rule : (z : ℕ) → (when not (z =? 0) then 0 else z) ≡ 0
-unfolding when◌then◌else◌
-sleeps_rule zero = refl
-sleeps_rule (suc z) = rw (eqb-suc-zero z)
-
--- at clock c + 1: end = c + 1 ends it, begin = c + 1 begins it
-tick_rule : (c b e z : ℕ) → b < e → z ≡ (when b ≤? c && c <? e then 1 else 0)
-    → (when b =? (c + 1) then 1 else when not (z =? 0) && e =? (c + 1) then 0 else z) ≡ (when b ≤? (c + 1) && (c + 1) <? e then 1 else 0)
-unfolding when◌then◌else◌
-tick_rule c b e z h q =
-    by_test (b =? (c + 1))
-    (λ p. rw (p, le-leb b (c + 1) (omega (arith, eqb-true b (c + 1) p)), lt-ltb (c + 1) e (omega (arith, eqb-true b (c + 1) p))))
-    (λ p. by_test (b ≤? c)
-    (λ l. by_test (c <? e)
-    (λ u.
-    let one : z ≡ 1 = q ∙ rw (l, u) in
-    by_test (e =? (c + 1))
-    (λ v. rw (p, one, v, le-leb b (c + 1) (omega (arith, leb-true b c l)), le-ltb (c + 1) e (omega (arith, eqb-true e (c + 1) v))))
-    (λ v. rw (p, one, v, le-leb b (c + 1) (omega (arith, leb-true b c l)), lt-ltb (c + 1) e (omega (arith, eqb-false e (c + 1) v, ltb-true c e u)))))
-    (λ u.
-    let none : z ≡ 0 = q ∙ rw (l, u) in
-    rw (p, none, le-leb b (c + 1) (omega (arith, leb-true b c l)), le-ltb (c + 1) e (omega (arith, ltb-false c e u)))))
-    (λ l.
-    let none : z ≡ 0 = q ∙ rw l in
-    rw (p, none, lt-leb b (c + 1) (omega (arith, leb-false b c l, eqb-false b (c + 1) p)))))
+choice_same w x = grind arith
 
 -- ---- what the table of states says
 
-abbrev AllThree : List ℕ → Type 0
-AllThree [] = Unit {0}
-AllThree (x ∷ xs) = (x ≤ paused) × AllThree xs
-
-entry_three : (xs : List ℕ) (i d : ℕ) → AllThree xs → d ≤ paused → get_or xs i d ≤ paused
-entry_three [] i d a h = h
-entry_three (x ∷ xs) zero d a h = a.0
-entry_three (x ∷ xs) (suc i) d a h = entry_three xs i d a.1 h
-
 next_three : (s action : ℕ) → s ≤ paused → next_state s action ≤ paused
 unfolding next_state
-next_three zero action h = entry_three (get_or next_states 0 []) (action - 1) 0 (lit≤ tt, (lit≤ tt, (lit≤ tt, (lit≤ tt, (lit≤ tt, tt))))) h
-next_three (suc zero) action h = entry_three (get_or next_states 1 []) (action - 1) 1 (lit≤ tt, (lit≤ tt, (lit≤ tt, (lit≤ tt, (lit≤ tt, tt))))) h
-next_three (suc (suc zero)) action h = entry_three (get_or next_states 2 []) (action - 1) 2 (lit≤ tt, (lit≤ tt, (lit≤ tt, (lit≤ tt, (lit≤ tt, tt))))) h
-next_three (suc (suc (suc s))) action h = absurd (omega arith)
+next_three s action h = grind arith
 
 -- only start wakes, and it wakes only
-start_wakes : (s : ℕ) → (s ≡ next_state s to_start → ⊥) → s ≡ sleeping
+woken : (s action : ℕ) → to_start ≤ action → (s ≡ next_state s action → ⊥) → (action ≡ to_start → s ≡ sleeping) × (s ≡ sleeping → action ≡ to_start)
 unfolding next_state
-start_wakes zero d = refl
-start_wakes (suc zero) d = absurd (d refl)
-start_wakes (suc (suc zero)) d = absurd (d refl)
-start_wakes (suc (suc (suc s))) d = absurd (d refl)
+woken s action l d = grind arith
 
 pub start_awake : (s : ℕ) → Awake (next_state s to_start)
 unfolding next_state
-start_awake zero e = omega arith
-start_awake (suc zero) e = omega arith
-start_awake (suc (suc zero)) e = omega arith
-start_awake (suc (suc (suc s))) e = omega arith
-
-none_wakes : (action : ℕ) → to_start ≤ action → (action ≡ to_start → ⊥) → next_state sleeping action ≡ sleeping
-unfolding next_state
-none_wakes zero l d = absurd (omega arith)
-none_wakes (suc zero) l d = absurd (d refl)
-none_wakes (suc (suc a)) l d = rw sub-one (zeros a)
-  where
-    zeros : (a : ℕ) → get_or (sleeping ∷ sleeping ∷ sleeping ∷ sleeping ∷ []) a sleeping ≡ sleeping
-    zeros zero = refl
-    zeros (suc zero) = refl
-    zeros (suc (suc zero)) = refl
-    zeros (suc (suc (suc zero))) = refl
-    zeros (suc (suc (suc (suc a)))) = refl
+start_awake s = grind arith
 
 stop_sleeps : (s : ℕ) → s ≤ paused → next_state s to_stop ≡ sleeping
 unfolding next_state
-stop_sleeps zero h = refl
-stop_sleeps (suc zero) h = refl
-stop_sleeps (suc (suc zero)) h = refl
-stop_sleeps (suc (suc (suc s))) h = absurd (omega arith)
+stop_sleeps s h = grind arith
 
 -- ---- what is kept
 
@@ -142,25 +69,15 @@ module _ (d : Document) (sound : Sound d) where
   abbrev owner : ℕ → ℕ
   owner a = (anchor_at d.anchors a).media
 
-  -- the clock is in the anchor
-  abbrev inside : ℕ → ℕ → Bool
-  inside a clock = (anchor_at d.anchors a).begin ≤? clock && clock <? (anchor_at d.anchors a).end
-
   -- nodes other than n are as they were: if n is fine, all are; and if the anchors of n follow, all do
   module _ (n : ℕ) (x y : Run) (o : RunOnly n x y) where
     nodes_again : ((j : ℕ) → j < d.nodes.count → (j ≡ n → ⊥) → TimedAt d x.state j) → TimedAt d y.state n → (j : ℕ) → j < d.nodes.count → TimedAt d y.state j
-    nodes_again others this j l =
-        by_test (j =? n)
-        (λ q. rw (eqb-true j n q) this)
-        (λ q. let u = eqb-false j n q in rw (o.state j u, o.clock j u) (others j l u))
+    nodes_again others this j l = grind (arith, nat_tests, others j l, o.state j, o.clock j)
 
     anchors_again : ((a : ℕ) → a < d.anchors.count → Follows d x.state a) → ((a : ℕ) → a < d.anchors.count → owner a ≡ n → Follows d y.state a)
         → ((a : ℕ) → a < d.anchors.count → (owner a ≡ n → ⊥) → anchor_state y.state a ≡ anchor_state x.state a) → (a : ℕ) → a < d.anchors.count → Follows d y.state a
     unfolding anchor_state_in
-    anchors_again all own rest a l =
-        by_test (owner a =? n)
-        (λ q. own a l (eqb-true (owner a) n q))
-        (λ q. let u = eqb-false (owner a) n q in rw (rest a l u, o.state (owner a) u, o.clock (owner a) u) (all a l))
+    anchors_again all own rest a l = grind (arith, nat_tests, all a l, own a l, rest a l, o.state (owner a), o.clock (owner a))
 
   -- ---- media n goes to another state by an action, and its anchors with it, in either order
 
@@ -168,7 +85,7 @@ module _ (d : Document) (sound : Sound d) where
     node : RunMoved n new x y
     anchors : (a : ℕ) → a < d.anchors.count → anchor_state y.state a ≡ (when moving d (follows action) n x a then new else anchor_state x.state a)
 
-  module _ (action n new : ℕ) (x : Run) (h : n < d.nodes.count) (p : Shaped d x.state) where
+  module _ (n : ℕ) (x : Run) (h : n < d.nodes.count) (p : Shaped d x.state) where
     room : d.anchors.count ≤ length x.state.anchors.states
     room = omega (arith, sound.anchors, p.anchors.0.len)
 
@@ -178,9 +95,9 @@ module _ (d : Document) (sound : Sound d) where
     clocks_room : n < length x.state.nodes.clocks
     clocks_room = omega (arith, sound.nodes.few, p.nodes.1.0.len)
 
-    moves : Moved action n new x (media_to d.anchors action n new x)
+    moves : (action new : ℕ) → Moved action n new x (media_to d.anchors action n new x)
     unfolding media_to moving
-    moves =
+    moves action new =
         let aborting = action =? to_abort in
         let test = follows action in
         chosen (Moved action n new x) _
@@ -210,54 +127,37 @@ module _ (d : Document) (sound : Sound d) where
     -- an anchor of media n: started, put to sleep, or moved
     own : (a : ℕ) → a < d.anchors.count → owner a ≡ n → Follows d y.state a
     unfolding moving follows begins_at is_awake anchor_state_in when◌then◌else◌
-    own a l e =
-        let z = anchor_state x.state a in
-        let q : z ≡ _ = rw e at (anchors a l) in
-        rw (m.anchors a l, e, eq-eqb n n refl, m.node.here)
-        (by_test (action =? to_start)
-        (λ s.
-        let wakes : old ≡ 0 = start_wakes old (λ z. change (rw (eqb-true action to_start s) z)) in
-        let none : z ≡ 0 = q ∙ rw wakes (choice_same (inside a (node_clock x.state n)) 0) in
-        let clock : node_clock y.state n ≡ 0 = m.node.clock_wakes wakes (rw (eqb-true action to_start s) (start_awake old)) in
-        rw (s, none, clock, begins_zero (anchor_at d.anchors a).begin (anchor_at d.anchors a).end (sound.anchor_span a l)))
-        (λ s. by_test (new =? 0)
-        (λ u. rw (s, eqb-true new 0 u, sleeps_rule z, choice_same _ 0))
-        (λ u.
-        let awake : Awake old = λ o. change (o ∙ sym (rw o (none_wakes action one (eqb-false action to_start s)))) in
-        rw (s, m.node.clock_stays awake (eqb-false new 0 u)) (moves_rule (inside a (node_clock x.state n)) old new z awake q))))
+    own a l e = grind (arith, nat_tests, m.anchors a l, anchors a l, sound.anchor_span a l, woken old action one change, start_awake old)
 
     -- its clock, if it stays awake, was below the duration
     moved_timed : ((j : ℕ) → j < d.nodes.count → (j ≡ n → ⊥) → TimedAt d x.state j) → old ≤ paused
         → (Awake new → TimedAt d x.state n) → Timed d y.state
     unfolding moving when◌then◌else◌
-    moved_timed others three this = record {
-      nodes = nodes_again n x y m.node.only others (rw m.node.here (record {
-        three = next_three old action three;
-        composite = λ c. absurd (true≢false (sym type ∙ c));
-        asleep = λ z. m.node.clock_sleeps (λ o. change (o ∙ sym z)) z;
-        bounded = λ u a z. by_test (old =? 0)
-            (λ o. rw (m.node.clock_wakes (eqb-true old 0 o) a) z)
-            (λ o. rw (m.node.clock_stays (eqb-false old 0 o) a) ((this a).bounded u (eqb-false old 0 o) z));
-      }));
-      anchors = anchors_again n x y m.node.only anchors own (λ a l u. m.anchors a l ∙ rw (ne_eqb (owner a) n u));
-    }
+    moved_timed others three this =
+        let low = next_three old action three in
+        let here : TimedAt d y.state n = grind (arith, nat_tests, this) in
+        record {
+          nodes = nodes_again n x y m.node.only others here;
+          anchors = anchors_again n x y m.node.only anchors own (λ a l u. m.anchors a l ∙ rw (ne_eqb (owner a) n u));
+        }
 
   media_timed : (action n : ℕ) (r : Run) → to_start ≤ action → n < d.nodes.count → is_media d.nodes n ≡ true → Shaped d r.state → Timed d r.state → Timed d (media_moved d.anchors action n r).state
   unfolding media_moved
   media_timed action n r one h type s p =
       chosen (λ (y : Run). Timed d y.state) _ (λ _. p)
-      (λ e. moved_timed action n r _ one h type (eqb-false _ _ e) (moves action n _ r h s) p.anchors (λ j l _. p.nodes j l) (p.nodes n h).three (λ _. p.nodes n h))
+      (λ e. moved_timed action n r _ one h type (eqb-false _ _ e) (moves n r h s action _) p.anchors (λ j l _. p.nodes j l) (p.nodes n h).three (λ _. p.nodes n h))
 
   -- ---- a composite has no anchors, and its clock stays 0
 
   composite_timed : (aborting : Bool) (c new : ℕ) (r : Run) → c < d.nodes.count → is_media d.nodes c ≡ false → new ≤ paused → Shaped d r.state → Timed d r.state → Timed d (node_to aborting c new r).state
   composite_timed aborting c new r h type low s p =
-      let m = node_moves aborting c new r (states_room 0 c new r h s) (clocks_room 0 c new r h s) in
+      let m = node_moves aborting c new r (states_room c r h s) (clocks_room c r h s) in
       let clock = m.clock_low ((p.nodes c h).composite type) in
       let y = node_to aborting c new r in
+      let here : TimedAt d y.state c = grind (arith, nat_tests) in
       record {
-        nodes = nodes_again c r y m.only (λ j l _. p.nodes j l) (rw m.here (record { three = low; composite = λ _. clock; asleep = λ _. clock; bounded = λ u a z. absurd (true≢false (sym u ∙ type)) }));
-        anchors = anchors_again c r y m.only p.anchors (λ a l e. absurd (true≢false (sym (sound.anchor_type a l) ∙ rw e type))) (λ a l u. rw (node_leaves_anchors aborting c new r));
+        nodes = nodes_again c r y m.only (λ j l _. p.nodes j l) here;
+        anchors = anchors_again c r y m.only p.anchors (λ a l e. grind (arith, sound.anchor_type a l)) (λ a l u. rw (node_leaves_anchors aborting c new r));
       }
 
   -- ---- one tick of an occurring media: y has lost the anchors that end, z has those that begin
@@ -274,11 +174,11 @@ module _ (d : Document) (sound : Sound d) where
     z = anchors_passed d n next r
 
     abbrev ended : Passed d (ends_at next) n sleeping (with_state (with_clock n next r.state) r.log r) d.anchors.count y
-    ended = anchors_pass d (ends_at next) n false sleeping _ (room 0 n 0 r h s)
+    ended = anchors_pass d (ends_at next) n false sleeping _ (room n r h s)
 
     begun : Passed d (begins_at next) n occurring y d.anchors.count z
     unfolding anchors_passed
-    begun = anchors_pass d (begins_at next) n false occurring y (rw ended.len (room 0 n 0 r h s))
+    begun = anchors_pass d (begins_at next) n false occurring y (rw ended.len (room n r h s))
 
     states_same : z.state.nodes.states ≡ r.state.nodes.states
     states_same = begun.states ∙ ended.states
@@ -290,20 +190,15 @@ module _ (d : Document) (sound : Sound d) where
     only = record { state = λ j u. rw states_same; clock = λ j u. rw clocks_next (get_or-set_other r.state.nodes.clocks n j next 0 u) }
 
     clock_here : node_clock z.state n ≡ next
-    clock_here = rw clocks_next (get_or-set_same r.state.nodes.clocks n next 0 (clocks_room 0 n 0 r h s))
+    clock_here = rw clocks_next (get_or-set_same r.state.nodes.clocks n next 0 (clocks_room n r h s))
 
     own_anchor : (a : ℕ) → a < d.anchors.count → owner a ≡ n → Follows d z.state a
     unfolding anchor_state_in moving begins_at ends_at when◌then◌else◌
-    own_anchor a l e =
-        rw (begun.done a l, ended.done a l, e, eq-eqb n n refl, clock_here, states_same, occurs)
-        (tick_rule (node_clock r.state n) (anchor_at d.anchors a).begin (anchor_at d.anchors a).end (anchor_state r.state a) (sound.anchor_span a l) (rw (e, occurs) at (p.anchors a l)))
+    own_anchor a l e = grind (arith, nat_tests, begun.done a l, ended.done a l, clock_here, states_same, p.anchors a l, sound.anchor_span a l)
 
     pub anchors : (a : ℕ) → a < d.anchors.count → Follows d z.state a
     unfolding moving when◌then◌else◌
     anchors = anchors_again n r z only p.anchors own_anchor (λ a l u. rw (begun.done a l, ended.done a l, ne_eqb (owner a) n u))
-
-    others : (j : ℕ) → j < d.nodes.count → (j ≡ n → ⊥) → TimedAt d z.state j
-    others j l u = rw (only.state j u, only.clock j u) (p.nodes j l)
 
     -- the clock has come to the duration, and the media stops; or it is still below
     passed_timed : Shaped d z.state → Timed d (passed d n next r).state
@@ -315,18 +210,11 @@ module _ (d : Document) (sound : Sound d) where
         chosen (λ (k : Run). Timed d k.state) (duration_of d.nodes n =? next)
         (λ _. chosen (λ (k : Run). Timed d k.state) _
         (λ e. absurd (omega (arith, eqb-true (node_state z.state n) (next_state (node_state z.state n) to_stop) e)))
-        (λ e. moved_timed to_stop n z _ (lit≤ tt) h type (eqb-false _ _ e) (moves to_stop n _ z h shaped) anchors others three (λ a. absurd (a stops))))
-        (λ e. record {
-          nodes = nodes_again n z z (record { state = λ j u. refl; clock = λ j u. refl }) others (rw (is, clock_here) (record {
-            three = lit≤ tt;
-            composite = λ c. absurd (true≢false (sym type ∙ c));
-            asleep = λ q. absurd (omega arith);
-            bounded = λ u a v.
-                let below = (p.nodes n h).bounded type (λ o. omega (arith, occurs)) v in
-                omega (arith, eqb-false (duration_of d.nodes n) next e);
-          }));
-          anchors = anchors;
-        })
+        (λ e. moved_timed to_stop n z _ (lit≤ tt) h type (eqb-false _ _ e) (moves n z h shaped to_stop _) anchors (λ j l u. rw (only.state j u, only.clock j u) (p.nodes j l)) three (λ a. absurd (a stops))))
+        (λ e.
+        let was = p.nodes n h in
+        let here : TimedAt d z.state n = grind (arith, nat_tests, clock_here) in
+        record { nodes = nodes_again n r z only (λ j l _. p.nodes j l) here; anchors = anchors })
 
   -- ---- all together
 
@@ -353,27 +241,11 @@ module _ (d : Document) (sound : Sound d) where
   unfolding set_property choice_made keyed firing_logged limit_met anchor_state_in
   times = record {
     moves = record {
-      media = λ action n r one h type p. record {
-        shaped = shape_steps.moves.media action n r one h type p.shaped;
-        timed = media_timed action n r one h type p.shaped p.timed;
-      };
+      media = λ action n r one h type p. search (shape_steps.moves.media, media_timed);
       tick = tick_keeps;
-      composite = λ aborting c new r h type low p. record {
-        shaped = shape_steps.moves.composite aborting c new r h type low p.shaped;
-        timed = composite_timed aborting c new r h type low p.shaped p.timed;
-      };
-      choice = λ n c r right p. record {
-        shaped = shape_steps.moves.choice n c r right p.shaped;
-        timed = record { nodes = p.timed.nodes; anchors = p.timed.anchors };
-      };
+      composite = λ aborting c new r h type low p. search (shape_steps.moves.composite, composite_timed);
+      choice = λ n c r right p. search (shape_steps.moves.choice);
     };
-    property = λ i value r h p. record {
-      shaped = shape_steps.property i value r h p.shaped;
-      timed = record { nodes = p.timed.nodes; anchors = p.timed.anchors };
-    };
-    lines = record {
-      key = λ code r p. record { shaped = p.shaped; timed = p.timed };
-      firing = λ l r _ p. record { shaped = p.shaped; timed = p.timed };
-      limit = λ r p. record { shaped = p.shaped; timed = p.timed };
-    };
+    property = λ i value r h p. search (shape_steps.property);
+    lines = assumption;
   }

@@ -1,14 +1,14 @@
 -- The values of the properties: what actions do to them; and in the chain, after lines were taken, p has the count of the last start among them.
 use Prim.Native.Nat.{ℕ, suc, ◌<◌, ◌≤◌}
 use native.Mathlib.Omega.{arith}
-use mathlib.Core.Bool.{Bool, true, false, ◌&&◌, true≢false}
+use mathlib.Core.Bool.{Bool, true, false, ◌&&◌}
 use mathlib.Core.List.{List, [], ◌∷◌, ◌++◌}
-use mathlib.Core.Path.{◌≡◌, refl, sym, ◌∙◌}
+use mathlib.Core.Path.{◌≡◌, refl, ◌∙◌}
 use lib.IntN.{ℤ}
-use lib.Dec.{lit<}
 use lib.ListN.{length}
-use borrow.Author.Tests.{eqb-true, eqb-false, eq-eqb, ne_eqb}
-use Rattle.base.specs.Tests.{when◌then◌else◌, ◌=?◌, by_test, both_pass, pass_both}
+use borrow.Author.Tests.{eqb-true, eqb-false, ne_eqb}
+use Rattle.std.proofs.lemmas.Bool.Decides.{nat_tests}
+use Rattle.base.specs.Tests.{when◌then◌else◌, ◌=?◌, by_test}
 use Rattle.base.specs.Loops.{ascending, ascending_idle, ascending_turns}
 use Rattle.machine.specs.Terms.{to_set, starts, of_anchor, no_id}
 use Rattle.machine.specs.Tables.{link_at, action_at, action_count}
@@ -42,11 +42,7 @@ module _ (test : ℕ → Bool) (value : ℕ → ℤ) (n : ℕ) (v : ℤ) where
   unfolding when◌then◌else◌
   one_sets j h passes only =
       ascending_turns (λ k (w : ℤ). j < k → w ≡ value j) n v (λ l. absurd (omega arith))
-      (λ k w i q l. by_test (test k)
-      (λ t. rw (t, only k i t))
-      (λ t.
-      let other : k ≡ j → ⊥ = λ e. true≢false (sym passes ∙ rw (← e) t) in
-      rw t (q (omega arith))))
+      (λ k w i q l. grind (arith, nat_tests, only k i))
       h
 
 module _ (d : Document) (sound : Sound d) (p : ℕ) where
@@ -109,25 +105,9 @@ module _ (d : Document) (sound : Sound d) (p : ℕ) where
     sets_count x l = matches x l && is_count_link_in d m p l
 
     -- exactly where x is the start of an anchor of m, and the link that anchor's
-    start_sets : (x : Line) (l : ℕ) → is_start_of d m x ≡ true → is_count_link_of d p x.id l ≡ true → sets_count x l ≡ true
+    sets_at_start : (x : Line) (l : ℕ) → sets_count x l ≡ (is_start_of d m x && is_count_link_of d p x.id l)
     unfolding is_start_of is_count_link_of is_count_link_in is_count_link
-    start_sets x l e f =
-        let link = link_at d.links l in
-        let a = all_pass (x.class =? of_anchor) _ _ e in
-        let b = both_pass (link.subject =? x.id) _ f in
-        let c = all_pass (link.class =? of_anchor) _ _ b.1 in
-        rw (eqb-true x.class of_anchor a.0, eqb-true x.transition starts a.1, b.0, c.0, c.1, c.2, eqb-true link.subject x.id b.0, a.2)
-
-    sets_start : (x : Line) (l : ℕ) → sets_count x l ≡ true → (is_start_of d m x ≡ true) × (is_count_link_of d p x.id l ≡ true)
-    unfolding is_start_of is_count_link_of is_count_link_in is_count_link
-    sets_start x l e =
-        let link = link_at d.links l in
-        let q = both_pass (matches x l) _ e in
-        let a = all_pass (link.class =? x.class) _ _ q.0 in
-        let b = both_pass (is_anchor_of d.anchors m link.subject) _ q.1 in
-        let c = all_pass (link.class =? of_anchor) _ _ b.1 in
-        rw (← eqb-true link.class x.class a.0, ← eqb-true link.subject x.id a.1, ← eqb-true link.transition x.transition a.2)
-        (rw (c.0, c.1) b.0, rw (eq-eqb link.subject _ refl) b.1)
+    sets_at_start x l = grind (arith, nat_tests)
 
     -- the count that link l sets p to
     abbrev count_of_link : ℕ → ℤ
@@ -151,19 +131,11 @@ module _ (d : Document) (sound : Sound d) (p : ℕ) where
 
       idle_value : fires owner_chosen d y.state x l ≡ false → Tried y
       unfolding fires owner_chosen guard_holds when◌then◌else◌
-      idle_value e f =
-          by_test (sets_count x l)
-          (λ c. let b = both_pass (matches x l) _ c in absurd (true≢false (sym (pass_both _ _ (pass_both _ _ b.0 (showing.chosen l h b.1 y.state.choices)) (rw (showing.unguarded l h b.1))) ∙ e)))
-          (λ c. rw c (q f))
+      idle_value e f = grind (arith, nat_tests, showing.chosen l h, showing.unguarded l h)
 
       link_value : Tried (link_tried owner_chosen d x l y)
-      unfolding link_tried goes_on fired limit_met fires
-      link_value =
-          chosen Tried (goes_on y && fires owner_chosen d y.state x l)
-          (λ e.
-          let b = both_pass (goes_on y) _ e in
-          chosen Tried _ (λ _. fired_value (both_pass (matches x l) _ (both_pass (matches x l && owner_chosen d y.state (link_at d.links l).owner) _ b.1).0).0 (eqb-true _ _ b.0)) (λ _ f. absurd (met_stops 11 y.log (lit< tt) f)))
-          (λ e f. idle_value (rw f at e) f)
+      unfolding link_tried goes_on fired limit_met fires when◌then◌else◌
+      link_value f = grind (arith, nat_tests, fired_value, idle_value, met_stops 11 y.log)
 
     -- ---- the lines: p has the count of the last start among those that were taken
 
@@ -184,8 +156,8 @@ module _ (d : Document) (sound : Sound d) (p : ℕ) where
         let given = (all_pass (x.class =? of_anchor) (x.transition =? starts) (is_anchor_of d.anchors m x.id) e).2 in
         let one = showing.link x.id given in
         rw (e, ne_eqb x.id no_id (λ w. omega (arith, sound.anchors, (anchor_given d.anchors m x.id given).0)))
-        (one_sets (sets_count x) count_of_link d.links.count v _ one.below (start_sets x _ e one.passes) (λ l h t. one.only l h (sets_start x l t).1)))
-        (λ e. rw e (none_sets (sets_count x) count_of_link d.links.count v (λ l h. by_test (sets_count x l) (λ t. absurd (true≢false (sym (sets_start x l t).0 ∙ e))) (λ t. t)))))
+        (one_sets (sets_count x) count_of_link d.links.count v _ one.below (rw (sets_at_start x _, e) one.passes) (λ l h t. one.only l h (rw (sets_at_start x l, e) at t))))
+        (λ e. rw e (none_sets (sets_count x) count_of_link d.links.count v (λ l h. rw (sets_at_start x l, e)))))
 
     pub chained_value : (before : ℤ) (h : List Line) (r : Run) → ShapedRun d r → length r.log.lines ≤ r.log.room → HasLastCount before h r → HasLastCount before (h ++ (chained owner_chosen d r).log.lines) (chained owner_chosen d r)
     chained_value before h r shaped fits q f =

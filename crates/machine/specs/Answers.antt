@@ -1,13 +1,10 @@
 -- "Where an answer is an enum, a definition gives, for each of its cases, this paper's number and values."
 -- Every operation's promise is stated through these.
-use Rattle.std.specs.Prelude.{ℕ, ◌≡◌, refl, false, List, [], ◌∷◌, ℤ, pos}
+use Rattle.std.specs.Prelude.{ℕ, ◌≡◌, refl, false, List, [], ◌∷◌, ℤ, pos, ⊤, Result, Ok, Err}
 use Rattle.base.specs.Tests.{◌=?◌}
 use Rattle.machine.specs.declared.Refusal.{Refusal}
 use Rattle.machine.specs.declared.Refusal.TheVariants.{CutRecord, UnknownKind, MisplacedHead, TableFull, FieldOutOfRange, UnknownId, Conflict, NoNode, BadArgument, NoSuchId, LimitReached, LogFull, BrokenSession}
-use Rattle.machine.specs.declared.Check.{Check}
-use Rattle.machine.specs.declared.LoadAnswer.{LoadAnswer}
-use Rattle.machine.specs.declared.CallAnswer.{CallAnswer}
-use Rattle.machine.specs.declared.ReadAnswer.{ReadAnswer}
+use Rattle.machine.specs.declared.Reading.{Reading}
 use Rattle.machine.specs.declared.Condition.{Condition}
 use Rattle.machine.specs.declared.Condition.TheVariants.{HasAnchor, AnchorsDisjoint, EachHasOneLink, EachSetsOnce, EachUnguarded, NoOtherAction, EachOutsideSwitches}
 use Rattle.machine.specs.declared.CountsAnswer.{CountsAnswer}
@@ -56,23 +53,23 @@ numbered LogFull = refl
 numbered BrokenSession = refl
 
 -- the number of the refusal that a check answers, 0 if it passed
-abbrev pub check_number : Check → ℕ
-check_number Check.Passed = 0
-check_number (Check.Refused r) = number_of r
+abbrev pub check_number : Result ⊤ Refusal → ℕ
+check_number (Ok _) = 0
+check_number (Err r) = number_of r
 
-abbrev pub load_answer : LoadAnswer → Answer
-load_answer LoadAnswer.Accepted = accepted []
-load_answer (LoadAnswer.Refused r) = refused (number_of r)
+abbrev pub load_answer : Result ⊤ Refusal → Answer
+load_answer (Ok _) = accepted []
+load_answer (Err r) = refused (number_of r)
 
 -- "the count comes back in the accepted answer"
-abbrev pub call_answer : CallAnswer → Answer
-call_answer (CallAnswer.Accepted firings) = accepted (pos firings ∷ [])
-call_answer (CallAnswer.Refused r) = refused (number_of r)
+abbrev pub call_answer : Result ℕ Refusal → Answer
+call_answer (Ok firings) = accepted (pos firings ∷ [])
+call_answer (Err r) = refused (number_of r)
 
 -- "It returns state, value or 0, count"
-abbrev pub read_answer : ReadAnswer → Answer
-read_answer (ReadAnswer.Found r) = accepted (pos r.state ∷ r.value ∷ pos r.count ∷ [])
-read_answer (ReadAnswer.Refused r) = refused (number_of r)
+abbrev pub read_answer : Result Reading Refusal → Answer
+read_answer (Ok r) = accepted (pos r.state ∷ r.value ∷ pos r.count ∷ [])
+read_answer (Err r) = refused (number_of r)
 
 -- the conditions under which a document shows counts, by their numbers in `Counts`
 abbrev pub condition_number : Condition → ℕ

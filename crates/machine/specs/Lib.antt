@@ -12,7 +12,7 @@ pub mod Owners
 pub mod Chain
 pub mod Broken
 pub mod Sound
-pub mod OfColumns
+pub mod Sessions
 pub mod Operations
 pub mod OwnersOutside
 pub mod Demand3

@@ -1,11 +1,17 @@
-// The types of the report player. What its operations do is defined in specs/; there is no code here. 01's numbers by name are in `terms`.
+// The types of the report player. What its operations do is defined in specs/; the code here turns refusals, conditions and sessions into
+// what they stand for. 01's numbers by name are in `terms`.
 //
 // A session is written down in public numbers, laid out as in C, and anybody may write one: nothing is assumed of it.
 #![tactic(auto)]
 
+pub mod sound;
 pub mod terms;
 
-// ---- the tables of a document: entry i of each array belongs to id i
+ghost use Rattle.std.specs.Prelude.{◌≡◌};
+ghost use Rattle.machine.specs.Answers.{number_of, condition_number};
+
+// ---- the tables of a document: entry i of each array belongs to id i. No count has an invariant, since anybody may write one; who needs a
+// bound asks for it.
 
 // Types: 0 context, 1 media, 2 switch.
 #[repr(C)]
@@ -135,7 +141,8 @@ pub struct Session {
     pub state: State,
 }
 
-// ---- the fields of one record; of a rule, those that its kind has not are 0
+// ---- the fields of one record; of a rule, those that its kind has not are 0 (an entry of a session may hold any kind and any field, and is
+// asked as a record too)
 
 #[derive(Clone, Copy)]
 pub struct NodeRecord {
@@ -228,7 +235,7 @@ pub struct Line {
     pub zero: u8,
 }
 
-// ---- the answers of the operations
+// ---- the answers of the operations: what an accepted one returns, or its refusal
 
 // In the order of their numbers.
 #[derive(Clone, Copy)]
@@ -248,49 +255,49 @@ pub enum Refusal {
     BrokenSession,
 }
 
-// What a check answers, and what stops a call: nothing, or a refusal.
-#[derive(Clone, Copy)]
-pub enum Check {
-    Passed,
-    Refused(Refusal),
+// 01's number of a refusal.
+impl From<Refusal> for u8 {
+    ghost from_gives = { λ refusal number. number ≡ number_of refusal };
+
+    fn from(refusal: Refusal) -> u8 {
+        match refusal {
+            Refusal::CutRecord => 1,
+            Refusal::UnknownKind => 2,
+            Refusal::MisplacedHead => 3,
+            Refusal::TableFull => 4,
+            Refusal::FieldOutOfRange => 5,
+            Refusal::UnknownId => 6,
+            Refusal::Conflict => 7,
+            Refusal::NoNode => 8,
+            Refusal::BadArgument => 9,
+            Refusal::NoSuchId => 10,
+            Refusal::LimitReached => 11,
+            Refusal::LogFull => 12,
+            Refusal::BrokenSession => 13,
+        }
+    }
 }
 
-#[derive(Clone, Copy)]
-pub enum LoadAnswer {
-    Accepted,
-    Refused(Refusal),
-}
-
+// Two words for a session with an answer; one generic over the answer would say no more.
 #[derive(Clone, Copy)]
 pub struct Loaded {
-    pub answer: LoadAnswer,
+    pub answer: Result<(), Refusal>,
     pub session: Session,
 }
 
 // An accepted call returns its firings.
 #[derive(Clone, Copy)]
-pub enum CallAnswer {
-    Accepted(u8),
-    Refused(Refusal),
-}
-
-#[derive(Clone, Copy)]
 pub struct Called {
-    pub answer: CallAnswer,
+    pub answer: Result<u8, Refusal>,
     pub session: Session,
 }
 
+// What a read gives: a node and an anchor have the value 0, a property the state 0, as 01 says.
 #[derive(Clone, Copy)]
 pub struct Reading {
     pub state: u8,
     pub value: i32,
     pub count: u32,
-}
-
-#[derive(Clone, Copy)]
-pub enum ReadAnswer {
-    Found(Reading),
-    Refused(Refusal),
 }
 
 // The conditions under which a document shows the counts of a media in a property, in the order of their numbers, 1 to 7.
@@ -305,7 +312,25 @@ pub enum Condition {
     EachOutsideSwitches,
 }
 
-// Whether a document shows the counts, or the first condition that fails.
+// The number of a condition.
+impl From<Condition> for u8 {
+    ghost from_gives = { λ condition number. number ≡ condition_number condition };
+
+    fn from(condition: Condition) -> u8 {
+        match condition {
+            Condition::HasAnchor => 1,
+            Condition::AnchorsDisjoint => 2,
+            Condition::EachHasOneLink => 3,
+            Condition::EachSetsOnce => 4,
+            Condition::EachUnguarded => 5,
+            Condition::NoOtherAction => 6,
+            Condition::EachOutsideSwitches => 7,
+        }
+    }
+}
+
+// Whether a document shows the counts, or the first condition that fails. Three outcomes, here and below, and no Result: a condition that
+// fails is an accepted answer.
 #[derive(Clone, Copy)]
 pub enum CountsAnswer {
     Shown,

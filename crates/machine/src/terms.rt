@@ -1,4 +1,5 @@
-// 01's numbers of types, states, actions, transitions, classes and kinds of a rule, by name.
+// 01's numbers of types, states, actions, transitions, classes and kinds of a rule, by name. Numbers and no enums: sessions, documents,
+// scripts and logs have them as bytes, which anybody may write, so any byte has to be taken, and what is computed goes back into them.
 
 // Types of a node.
 pub const CONTEXT: u8 = 0;
@@ -27,7 +28,7 @@ pub const TO_RESUME: u8 = 5;
 
 pub const TO_SET: u8 = 6;
 
-// What stands for an action where there is none.
+// What stands for an action where there is none: settling compares an action with one of these, a tick's with none.
 pub const NO_ACTION: u8 = 0;
 
 // Transitions; NO_TRANSITION is none, and also that of a fired line.

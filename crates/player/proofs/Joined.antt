@@ -1,6 +1,7 @@
 -- Demand 3 and the theorem of counts, of what the operations return: of a list of calls that were made, each on the session that the one
 -- before returned. What an operation promises of a call is read from its contract by the prover and is not written down again: `Post` of
 -- the function's generated module `Reads` is the claim of its `ensures` lines.
+use Rattle.std.specs.Prelude.{Ok}
 use Prim.Native.Nat.{ℕ}
 use mathlib.Core.List.{List, [], ◌∷◌}
 use mathlib.Core.Bool.{false}
@@ -20,7 +21,6 @@ use Rattle.machine.specs.Counts.{value_of, CountsShown}
 use Rattle.machine.specs.declared.Session.{Session}
 use Rattle.machine.specs.declared.Call.{Call}
 use Rattle.machine.specs.declared.Reading.{Reading}
-use Rattle.machine.specs.declared.ReadAnswer.TheVariants.{Found}
 use Rattle.machine.specs.declared.CountsAnswer.TheVariants.{Shown}
 use Rattle.machine.specs.declared.CountAnswer.TheVariants.{Count}
 use Rattle.engine.specs.Promises.{call_result}
@@ -140,7 +140,7 @@ pub record PropertyRead (s : Session) (p : ℕ) (reading : Reading) : Type 0 whe
   pub session : reads.handed.0 ≡ s
   pub class : reads.handed.1.0 ≡ of_property
   pub id : reads.handed.1.1.0 ≡ p
-  pub found : reads.returned ≡ Found reading
+  pub found : reads.returned ≡ Ok reading
 
 -- while m is awake and its clock is in its anchor a, what read returns for p is what count_of returned for a
 abbrev pub CountsRead : Session → Session → ℕ → ℕ → Type 0

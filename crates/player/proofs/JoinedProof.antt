@@ -1,5 +1,6 @@
 -- Demand 3 and the theorem of counts hold of what the operations return: their promises give the definition's sessions and results, of
 -- which they are proved.
+use Rattle.std.specs.Prelude.{Ok}
 use Prim.Native.Nat.{ℕ, ◌<◌}
 use native.Mathlib.Omega.{arith}
 use mathlib.Core.List.{List, [], ◌∷◌}
@@ -23,7 +24,6 @@ use Rattle.machine.specs.declared.State.{State}
 use Rattle.machine.specs.declared.Session.{Session}
 use Rattle.machine.specs.declared.Call.{Call}
 use Rattle.machine.specs.declared.Reading.{Reading}
-use Rattle.machine.specs.declared.ReadAnswer.TheVariants.{Found}
 use Rattle.machine.specs.declared.CountsAnswer.TheVariants.{Shown}
 use Rattle.machine.specs.declared.CountAnswer.TheVariants.{Count}
 use Rattle.document.specs.Loading.{load_result}
@@ -85,7 +85,7 @@ state_value : (s : State) (p : ℕ) → value_in (read_state s of_property p) �
 unfolding read_state value_in when◌then◌else◌
 state_value s p = refl
 
-read_value : (s : Session) (p : ℕ) (reading : Reading) → read s of_property p ≡ read_answer (Found reading) → value_of s.state p ≡ reading.value
+read_value : (s : Session) (p : ℕ) (reading : Reading) → read s of_property p ≡ read_answer (Ok reading) → value_of s.state p ≡ reading.value
 unfolding read value_in
 read_value s p reading =
     chosen Reads _ (λ _ e. absurd (refused_none 13 e (lit< tt)))
@@ -93,7 +93,7 @@ read_value s p reading =
     (λ _. chosen Reads _ (λ _ e. absurd (refused_none 10 e (lit< tt))) (λ _ e. sym (state_value s.state p) ∙ ap value_in e)))
   where
     Reads : Answer → Type 0
-    Reads r = r ≡ read_answer (Found reading) → value_of s.state p ≡ reading.value
+    Reads r = r ≡ read_answer (Ok reading) → value_of s.state p ≡ reading.value
 
 count_value : (count : ℤ) → value_in (with_count 0 count) ≡ count
 unfolding with_count value_in when◌then◌else◌
@@ -117,7 +117,7 @@ checked s m p c = sym (rw (c.session, c.media, c.property) at c.checking.promise
 given : (s : Session) (a p : ℕ) (count : ℤ) → CountGiven s a p count → give_count s a p ≡ count_answer (Count count)
 given s a p count c = sym (rw (c.session, c.anchor, c.property) at c.giving.promised) ∙ ap count_answer c.gave
 
-was_read : (s : Session) (p : ℕ) (reading : Reading) → PropertyRead s p reading → read s of_property p ≡ read_answer (Found reading)
+was_read : (s : Session) (p : ℕ) (reading : Reading) → PropertyRead s p reading → read s of_property p ≡ read_answer (Ok reading)
 was_read s p reading c = sym (rw (c.session, c.class, c.id) at c.reads.promised) ∙ ap read_answer c.found
 
 pub counts_made : CountsForEveryListMade

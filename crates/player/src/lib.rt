@@ -1,18 +1,32 @@
 // The report player: the crate to link. Any session, any arguments and a log slice of any length may be handed in.
-// A session that is not broken goes on to `engine` and `questions`.
+// A session that is not broken goes on to `engine` and `questions`. Sessions go by value, so that what comes back is a value of its own.
 #![tactic(auto)]
 
-ghost use Rattle.std.specs.Prelude.{◌≡◌, length};
+ghost use Rattle.std.specs.Prelude.{◌≡◌, true, false, length, IfOk, IfErr};
 ghost use Rattle.machine.specs.Answers.{read_answer, counts_answer, count_answer};
+ghost use Rattle.machine.specs.Broken.{broken};
 ghost use Rattle.machine.specs.Load.{load};
 ghost use Rattle.machine.specs.Operations.{command, call, read};
 ghost use Rattle.machine.specs.Counts.{check_counts, give_count};
+ghost use Rattle.machine.specs.Sessions.{session_of};
 ghost use Rattle.document.specs.Loading.{load_result};
 ghost use Rattle.engine.specs.Promises.{call_result};
 
+use machine::sound::UnbrokenSession;
 use machine::{
-    ActionRecord, Call, Called, CountAnswer, CountsAnswer, Loaded, ReadAnswer, Refusal, Session,
+    ActionRecord, Call, Called, CountAnswer, CountsAnswer, Loaded, Reading, Refusal, Session,
 };
+
+// The session, if it is not broken.
+fn unbroken(s: &Session) -> Result<UnbrokenSession, Refusal>
+    ensures given { IfOk result (λ session. (broken s.now ≡ false) × (session_of session ≡ s.now)) }
+    ensures refused { IfErr result (λ refusal. (broken s.now ≡ true) × (refusal ≡ Refusal.BrokenSession)) }
+{
+    if session_check::is_broken(s) {
+        return Err(Refusal::BrokenSession);
+    }
+    Ok(UnbrokenSession::new(*s))
+}
 
 pub fn load(document: &[u8]) -> Loaded
     ensures { load_result result ≡ load document.now }
@@ -20,13 +34,23 @@ pub fn load(document: &[u8]) -> Loaded
     document::loading::load(document)
 }
 
+#[tactic(auto, using(base::specs::Tests::when_tells), unfolding(machine::specs::Operations::call_admitting))]
 pub fn call(s: Session, c: Call, log: &mut [u8]) -> Called
     ensures { call_result result log.new ≡ call s c (length log.old) }
 {
-    if session_check::is_broken(s) {
-        return engine::refuse(s, Refusal::BrokenSession, log);
+    match unbroken(&s) {
+        Ok(mut session) => {
+            let answer = engine::call(&mut session, c, log);
+            Called {
+                answer,
+                session: Session::from(session),
+            }
+        }
+        Err(refusal) => Called {
+            answer: engine::refuse(refusal, log),
+            session: s,
+        },
     }
-    engine::call(s, c, log)
 }
 
 pub fn command(s: Session, action: u8, target: u8, value: i32, log: &mut [u8]) -> Called
@@ -56,29 +80,29 @@ pub fn tick(s: Session, log: &mut [u8]) -> Called
     call(s, Call::Tick, log)
 }
 
-pub fn read(s: Session, class: u8, id: u8) -> ReadAnswer
+#[tactic(auto, using(base::specs::Tests::when_tells), unfolding(machine::specs::Operations::read))]
+pub fn read(s: Session, class: u8, id: u8) -> Result<Reading, Refusal>
     ensures { read_answer result ≡ read s class id }
 {
-    if session_check::is_broken(s) {
-        return ReadAnswer::Refused(Refusal::BrokenSession);
-    }
-    questions::read(s, class, id)
+    questions::read(&unbroken(&s)?, class, id)
 }
 
+#[tactic(auto, using(base::specs::Tests::when_tells), unfolding(machine::specs::Counts::check_counts))]
 pub fn check_counts(s: Session, media: u8, property: u8) -> CountsAnswer
     ensures { counts_answer result ≡ check_counts s media property }
 {
-    if session_check::is_broken(s) {
-        return CountsAnswer::Refused(Refusal::BrokenSession);
+    match unbroken(&s) {
+        Ok(session) => questions::check_counts(&session, media, property),
+        Err(refusal) => CountsAnswer::Refused(refusal),
     }
-    questions::check_counts(s, media, property)
 }
 
+#[tactic(auto, using(base::specs::Tests::when_tells), unfolding(machine::specs::Counts::give_count))]
 pub fn count_of(s: Session, anchor: u8, property: u8) -> CountAnswer
     ensures { count_answer result ≡ give_count s anchor property }
 {
-    if session_check::is_broken(s) {
-        return CountAnswer::Refused(Refusal::BrokenSession);
+    match unbroken(&s) {
+        Ok(session) => questions::count_of(&session, anchor, property),
+        Err(refusal) => CountAnswer::Refused(refusal),
     }
-    questions::count_of(s, anchor, property)
 }

@@ -21,14 +21,14 @@ more_held held n before after h k same = record {
 }
 
 -- one part more, after which bytes are read
-goes_on_of : {number : ℕ} {s : Session} {script : List ℕ} (out : List ℕ) (p : Part) (stop : Stop) → (stop ≡ Stop.Ended → ⊥) → Stopped number s script out p stop
-    → GoesOn number s script (take p.filled out) p.number p.session (drop p.used script)
+goes_on_of : {number : ℕ} {s s' : Session} {script : List ℕ} (out : List ℕ) (p : Part) (stop : Stop) → (stop ≡ Stop.Ended → ⊥) → Stopped number s script s' out p stop
+    → GoesOn number s script (take p.filled out) p.number s' (drop p.used script)
 goes_on_of out p Full h known = known.0
 goes_on_of out p Cut h known = known.0
 goes_on_of out p Ended h known = absurd (h refl)
 
-pub reached_on : {s : Session} {p q : Part} {left out : List ℕ} → Reached s p left → Ran p.number p.session left out q → (q.stop ≡ Stop.Ended → ⊥) → (more : List ℕ)
-    → Reached s q (drop q.used left ++ more)
+pub reached_on : {s a b : Session} {p q : Part} {left out : List ℕ} → Reached s a p left → Ran p.number a left b out q → (q.stop ≡ Stop.Ended → ⊥) → (more : List ℕ)
+    → Reached s b q (drop q.used left ++ more)
 reached_on {q = q} reached ran h more = record {
   script = reached.script ++ more;
   printed = _;

@@ -1,10 +1,8 @@
 -- How a script goes on from part to part: the bytes that were read and are not run yet, the session and the number.
-use Rattle.std.specs.Prelude.{ℕ, ◌≤◌, List, ◌++◌, ◌≡◌, length, take}
+use Rattle.std.specs.Prelude.{ℕ, ◌≤◌, List, ◌++◌, ◌≡◌, length, take, Option, IfSome}
 use Rattle.machine.specs.declared.Session.{Session}
 use Rattle.script_run.specs.Running.{GoesOn}
 use Rattle.script_run.specs.declared.Part.{Part}
-use Rattle.printed_run.specs.declared.Next.{Next}
-use Rattle.printed_run.specs.declared.Next.TheVariants.{Held, End}
 
 -- so many bytes at the front of a slice: those that were left of the last part, and more behind them
 pub record HeldMore (left bytes : List ℕ) (n : ℕ) : Type 0 where
@@ -12,13 +10,13 @@ pub record HeldMore (left bytes : List ℕ) (n : ℕ) : Type 0 where
   pub more : List ℕ
   pub begins : take n bytes ≡ left ++ more
 
-abbrev pub HeldNext : (left bytes : List ℕ) → Next → Type 0
-HeldNext left bytes (Held n) = HeldMore left bytes n
-HeldNext left bytes End = Unit {0}
+-- so many, if the run goes on
+abbrev pub HeldNext : (left bytes : List ℕ) → Option ℕ → Type 0
+HeldNext left bytes next = IfSome next (HeldMore left bytes)
 
 -- the session and the number after a part are those to which some bytes of a script lead from the first session, with what they print,
 -- where these bytes are left
-pub record Reached (s : Session) (p : Part) (left : List ℕ) : Type 0 where
+pub record Reached (s s' : Session) (p : Part) (left : List ℕ) : Type 0 where
   pub script : List ℕ
   pub printed : List ℕ
-  pub goes_on : GoesOn 1 s script printed p.number p.session left
+  pub goes_on : GoesOn 1 s script printed p.number s' left

@@ -3,63 +3,55 @@
 // What is printed is made by the libraries `script_run` and `printing`. Here files are read, and lines go to standard output.
 #![tactic(auto)]
 
-ghost use Rattle.std.specs.Prelude.{false, ◌≡◌, List, ℕ, ◌≤◌, length, take, IfSome, IfOk};
+ghost use Rattle.std.specs.Prelude.{◌≡◌, List, ℕ, ◌≤◌, length, take, None, Ok, IfSome, IfOk};
 ghost use Rattle.std.proofs.Math.Seq.{slice};
-ghost use Rattle.machine.specs.Broken.{broken};
+ghost use Rattle.machine.specs.Sessions.{session_of};
 ghost use Rattle.printing.specs.Lines.{line_room};
 ghost use Rattle.printing.specs.Script.{script_record};
 ghost use Rattle.printing.specs.Writing.{Front};
 ghost use Rattle.printed_run.specs.Held.{HeldNext, Reached};
 
 use document_front::DECIDING_BYTES;
-use machine::{LoadAnswer, Session};
+use machine::sound::UnbrokenSession;
 use printing::script::ScriptRecord;
+use printing::text::Text;
 use script_run::{Part, Stop};
 use std::fs::File;
 use std::io;
 use std::io::Read;
 use std::rt::Files;
 
-// A proved loop has to end, and nothing says that a file does: the loop counts its turns down, from a number that no run uses up. In so
-// many turns the number of a call does not become too large.
+// A proved loop has to end, and nothing says that a file does: the loop has a number of turns that no run uses up. In so many the number
+// of a call does not become too large.
 const TURNS: u64 = 1_000_000_000_000_000;
 
-// After a part of the script: so many bytes are held at the front of their slice, which are to be run next; or the run ends.
-#[derive(Clone, Copy)]
-enum Next {
-    Held(usize),
-    End,
-}
-
-// Says on standard error what could not be read or written, and why. Where that cannot be written either, nothing can be said.
-fn fail(rt: &impl Eprint, what: &str, error: io::Error) {
-    let _ = eprintln!(rt; "{what}: {error}");
-}
-
-// Whether all was written.
-fn print<R: Print + Eprint>(rt: &R, line: &[u8]) -> bool {
-    match rt.write_all(line) {
-        Ok(()) => true,
+// The value; where there is none, standard error says what could not be read or written, and why. Where that cannot be written either,
+// nothing can be said.
+fn or_fail<T>(rt: &impl Eprint, what: &str, outcome: io::Result<T>) -> Option<T>
+    ensures { IfSome result (λ value. outcome ≡ Ok value) }
+{
+    match outcome {
+        Ok(value) => Some(value),
         Err(error) => {
-            fail(rt, "standard output", error);
-            false
+            let _ = eprintln!(rt; "{what}: {error}");
+            None
         }
     }
 }
 
-// ---- the script
+// Whether all was written.
+fn print<R: Print + Eprint>(rt: &R, line: &[u8]) -> bool {
+    or_fail(rt, "standard output", rt.write_all(line)).is_some()
+}
+
+// ---- the script: `rt`, the script, `part` and `out` are lent from function to function, and in no struct, since each is lent another part
+// of them; slices, as `script_run` takes them, of which what is asked holds of `main`'s arrays; `held` says how much of `part` is filled
 
 // One read, of as many bytes as it gives: none at the end of the script.
 fn read_script(rt: &impl Eprint, script: &mut impl Read, part: &mut [u8]) -> Option<usize>
     ensures { IfSome result (λ n. n ≤ length part.new) }
 {
-    match script.read(part) {
-        Ok(n) => Some(n),
-        Err(error) => {
-            fail(rt, "script", error);
-            None
-        }
-    }
+    or_fail(rt, "script", script.read(part))
 }
 
 // The end of a script, of which these bytes are left.
@@ -71,51 +63,49 @@ fn end_script<R: Print + Eprint>(rt: &R, left: &[u8], out: &mut [u8])
 }
 
 // Reads more of the script behind the bytes that are held, a cut record or none; where there is no more, the script ends with them.
+// Answers how many bytes are held then, which are to be run next; None if the run ends.
 fn read_on<R: Print + Eprint>(
     rt: &R,
     script: &mut impl Read,
     part: &mut [u8],
     held: usize,
     out: &mut [u8],
-) -> Next
+) -> Option<usize>
     requires { (held ≤ length part.old) × (script_record (take held part.old) ≡ ScriptRecord.Cut)
         × (7 ≤ length out.old) }
     ensures { HeldNext (take held part.old) part.new result }
 {
-    let Some(n) = read_script(rt, script, &mut part[held..]) else {
-        return Next::End;
-    };
+    let n = read_script(rt, script, &mut part[held..])?;
     if n == 0 {
         end_script(rt, &part[..held], out);
-        return Next::End;
+        return None;
     }
-    Next::Held(held + n)
+    Some(held + n)
 }
 
-// After a part of the script of so many bytes was run: writes its lines, and reads on where all its whole records are run.
+// After a part of the script of so many bytes was run: writes its lines, and reads on where all its whole records are run. Answers as
+// `read_on` does.
 fn go_on<R: Print + Eprint>(
     rt: &R,
     script: &mut impl Read,
     part: &mut [u8],
     held: usize,
-    used: usize,
-    stop: Stop,
-    filled: usize,
+    ran: Part,
     out: &mut [u8],
-) -> Next
-    requires { (used ≤ held) × (held ≤ length part.old) × Front filled out.old × (7 ≤ length out.old)
-        × (stop ≡ Stop.Cut → script_record (slice used held part.old) ≡ ScriptRecord.Cut) }
-    ensures held { HeldNext (slice used held part.old) part.new result }
-    ensures ended { stop ≡ Stop.Ended → result ≡ Next.End }
+) -> Option<usize>
+    requires { (ran.used ≤ held) × (held ≤ length part.old) × Front ran.filled out.old × (7 ≤ length out.old)
+        × (ran.stop ≡ Stop.Cut → script_record (slice ran.used held part.old) ≡ ScriptRecord.Cut) }
+    ensures held { HeldNext (slice ran.used held part.old) part.new result }
+    ensures ended { ran.stop ≡ Stop.Ended → result ≡ None }
 {
-    if !print(rt, &out[..filled]) {
-        return Next::End;
+    if !print(rt, &out[..ran.filled]) {
+        return None;
     }
-    let left = script_run::to_front(&mut *part, used, held);
-    match stop {
-        Stop::Full => Next::Held(left),
+    let left = script_run::to_front(&mut *part, ran.used, held);
+    match ran.stop {
+        Stop::Full => Some(left),
         Stop::Cut => read_on(rt, script, part, left, out),
-        Stop::Ended => Next::End,
+        Stop::Ended => None,
     }
 }
 
@@ -123,44 +113,36 @@ fn go_on<R: Print + Eprint>(
 // feeds it through a pipe sees the lines of what has been read. Answers the last part.
 fn run_script<R: Print + Eprint>(
     rt: &R,
-    session: Session,
+    session: &mut UnbrokenSession,
     script: &mut impl Read,
     part: &mut [u8],
     first: usize,
     log: &mut [u8],
     out: &mut [u8],
 ) -> Part
-    requires { (broken session ≡ false) × (length part.old ≡ 4_096) × (length log.old ≡ 65_536)
+    requires { (length part.old ≡ 4_096) × (length log.old ≡ 65_536)
         × (line_room 65_536 ≤ length out.old) }
-    ensures { (result.stop ≡ Stop.Ended → ⊥) → (left : List ℕ) × Reached session result left }
+    ensures { (result.stop ≡ Stop.Ended → ⊥) → (left : List ℕ) × Reached (session_of session.old) (session_of session.new) result left }
 {
     let mut held = first.min(part.len());
     // Nothing is run yet.
     let mut ran = Part {
-        session,
         number: 1,
         used: 0,
         filled: 0,
         stop: Stop::Full,
     };
-    let mut turns = TURNS;
-    while turns > 0 {
-        turns -= 1;
-        ran = script_run::run_part(ran.session, ran.number, &part[..held], &mut *log, &mut *out);
-        let stop = ran.stop;
-        let next = go_on(
-            rt,
-            &mut *script,
-            &mut *part,
-            held,
-            ran.used,
-            stop,
-            ran.filled,
+    for _ in 0..TURNS {
+        ran = script_run::run_part(
+            &mut *session,
+            ran.number,
+            &part[..held],
+            &mut *log,
             &mut *out,
         );
-        match next {
-            Next::Held(n) => held = n,
-            Next::End => return ran,
+        match go_on(rt, &mut *script, &mut *part, held, ran, &mut *out) {
+            Some(n) => held = n,
+            None => return ran,
         }
     }
     ran
@@ -168,7 +150,7 @@ fn run_script<R: Print + Eprint>(
 
 // ---- files
 
-// The file's bytes, as many as fit.
+// The file's bytes, as many as fit. (A while: how many bytes one read gives is not known.)
 fn read_start(file: &mut impl Read, bytes: &mut [u8]) -> io::Result<usize>
     ensures { IfOk result (λ n. n ≤ length bytes.new) }
 {
@@ -193,13 +175,7 @@ fn open_and_read_start(rt: &impl Files, document: &mut [u8]) -> io::Result<usize
 fn read_document<R: Files + Eprint>(rt: &R, document: &mut [u8]) -> Option<usize>
     ensures { IfSome result (λ n. n ≤ length document.new) }
 {
-    match open_and_read_start(rt, document) {
-        Ok(n) => Some(n),
-        Err(error) => {
-            fail(rt, "doc", error);
-            None
-        }
-    }
+    or_fail(rt, "doc", open_and_read_start(rt, document))
 }
 
 fn run_document<R: Print + Eprint>(
@@ -216,15 +192,16 @@ fn run_document<R: Print + Eprint>(
         × (line_room 65_536 ≤ length out.old) }
 {
     let loaded = document_front::load_front(document, filled);
-    let answer = loaded.answer;
-    match answer {
-        LoadAnswer::Accepted => {
-            run_script(rt, loaded.session, script, part, first, log, out);
+    match loaded.answer {
+        Ok(()) => {
+            let mut session = UnbrokenSession::new(loaded.session);
+            run_script(rt, &mut session, script, part, first, log, out);
         }
-        LoadAnswer::Refused(refusal) => {
+        Err(refusal) => {
             let mut line = [0u8; 8];
-            let n = printing::lines::document_line(&mut line, refusal);
-            print(rt, &line[..n]);
+            let mut text = Text::new(&mut line);
+            printing::lines::document_line(&mut text, refusal);
+            print(rt, text.written());
         }
     }
 }
@@ -235,12 +212,8 @@ fn main(rt: HostRuntime) {
     let Some(filled) = read_document(&rt, &mut document) else {
         return;
     };
-    let mut script = match File::open(&rt, "script") {
-        Ok(file) => file,
-        Err(error) => {
-            fail(&rt, "script", error);
-            return;
-        }
+    let Some(mut script) = or_fail(&rt, "script", File::open(&rt, "script")) else {
+        return;
     };
     let mut part = [0u8; 4096];
     let Some(first) = read_script(&rt, &mut script, &mut part) else {

@@ -2,4 +2,3 @@ pub mod Writings
 pub mod Decimals
 pub mod LogLines
 pub mod Texts
-pub mod ScriptRecords

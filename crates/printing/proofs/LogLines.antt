@@ -1,69 +1,44 @@
--- The lines of a log slice from a place on.
-use Prim.Native.Nat.{ℕ, zero, suc, ◌+◌, ◌-◌, ◌<◌, ◌≤◌}
-use native.Mathlib.Omega.{arith}
-use native.Mathlib.Numerals.{add-one}
-use mathlib.Core.Bool.{true, false, not, false≢true}
-use mathlib.Core.List.{List, [], ◌∷◌}
-use mathlib.Core.Path.{◌≡◌, refl, sym, ◌∙◌}
-use lib.ListN.{length, length-drop, get_or, drop}
-use lib.Seq.{drop-cons}
-use borrow.Author.Tests.{le-ltb, ltb-true, ltb-false, eqb-true, eqb-false}
-use Rattle.base.specs.Tests.{when◌then◌else◌, by_test, ◌=?◌, ◌<?◌}
+-- The lines of a log as its groups of four bytes.
+use Rattle.std.proofs.Common.{◌≡◌, ◌∙◌, sym, ap, ℕ, zero, suc, ◌+◌, ◌/◌, ◌<◌, ◌≤◌, get_or, drop, add-one, drop-cons, List, [], ◌∷◌, ◌++◌, refl, true, append_assoc, arith, length, map, take}
+use Rattle.std.proofs.lemmas.List.{drop_all}
+use borrow.Author.Tests.{ne_eqb}
+use Rattle.std.specs.List.{prefix_len}
+use Rattle.std.specs.Simd.{first_chunks}
 use Rattle.machine.specs.Log.{lines_of}
-use Rattle.printing.specs.Lines.{is_line}
+use Rattle.machine.specs.PrintedRun.{printed_lines}
+use Rattle.machine.specs.declared.Line.{Line}
+use Rattle.printing.specs.Lines.{is_line, group_of, line_text, groups_text}
 
--- no line: fewer than 4 bytes, or class 0
-lines_short : (b : List ℕ) → length b < 4 → lines_of b ≡ []
+taken_more : (group : List ℕ) (groups : List (List ℕ)) → is_line group ≡ true → take (prefix_len is_line (group ∷ groups)) (group ∷ groups) ≡ group ∷ take (prefix_len is_line groups) groups
+taken_more group groups h = let e : 1 + prefix_len is_line groups ≡ suc (prefix_len is_line groups) = omega arith in rw (h, e)
+
+pub lines_as_groups : (n : ℕ) (b : List ℕ) → n ≡ length b / 4 → take (prefix_len is_line (first_chunks 4 n b)) (first_chunks 4 n b) ≡ map group_of (lines_of b)
 unfolding lines_of
-lines_short [] h = refl
-lines_short (zero ∷ b) h = refl
-lines_short (suc c ∷ []) h = refl
-lines_short (suc c ∷ i ∷ []) h = refl
-lines_short (suc c ∷ i ∷ t ∷ []) h = refl
-lines_short (suc c ∷ i ∷ t ∷ z ∷ b) h = absurd (omega arith)
+lines_as_groups n [] e = rw e
+lines_as_groups zero (zero ∷ b) e = refl
+lines_as_groups (suc n) (zero ∷ b) e = refl
+lines_as_groups n (suc c ∷ []) e = rw e
+lines_as_groups n (suc c ∷ i ∷ []) e = rw e
+lines_as_groups n (suc c ∷ i ∷ t ∷ []) e = rw e
+lines_as_groups zero (suc c ∷ i ∷ t ∷ z ∷ b) e = absurd (omega arith)
+lines_as_groups (suc n) (suc c ∷ i ∷ t ∷ z ∷ b) e = taken_more (suc c ∷ i ∷ t ∷ z ∷ []) (first_chunks 4 n b) (rw (ne_eqb (suc c) 0 (λ e. omega arith))) ∙ ap (λ (groups : List (List ℕ)). (suc c ∷ i ∷ t ∷ z ∷ []) ∷ groups) (lines_as_groups n b (omega arith))
 
-lines_zero : (c : ℕ) (b : List ℕ) → c ≡ 0 → lines_of (c ∷ b) ≡ []
-unfolding lines_of
-lines_zero c b e = rw e
+-- what is printed of them
+lines_cons : (l : Line) (ls : List Line) → printed_lines (l ∷ ls) ≡ line_text l.class l.id l.transition ++ printed_lines ls
+unfolding printed_lines line_text
+lines_cons l ls = simp append_assoc
 
-lines_more : (c i t z : ℕ) (b : List ℕ) → (c ≡ 0 → ⊥) → lines_of (c ∷ i ∷ t ∷ z ∷ b) ≡ record { class = c; id = i; transition = t; zero = z } ∷ lines_of b
-unfolding lines_of
-lines_more zero i t z b h = absurd (h refl)
-lines_more (suc c) i t z b h = refl
+pub printed_as_groups : (ls : List Line) → groups_text (map group_of ls) ≡ printed_lines ls
+unfolding groups_text printed_lines
+printed_as_groups [] = refl
+printed_as_groups (l ∷ ls) = rw (printed_as_groups ls) (sym (lines_cons l ls))
 
--- the bytes from a place on, where there is one more
-drop_one : (b : List ℕ) (p : ℕ) → p < length b → drop p b ≡ get_or b p 0 ∷ drop (p + 1) b
-drop_one b p h = rw (add-one, drop-cons b p 0)
+-- what is printed of the groups from a place on
+pub groups_from : (groups : List (List ℕ)) (i : ℕ) → i < length groups
+    → groups_text (drop i groups) ≡ line_text (get_or (get_or groups i []) 0 0) (get_or (get_or groups i []) 1 0) (get_or (get_or groups i []) 2 0) ++ groups_text (drop (i + 1) groups)
+unfolding groups_text
+groups_from groups i h = rw (add-one, drop-cons groups i [])
 
-drop_four : (b : List ℕ) (p : ℕ) → p + 3 < length b → drop p b ≡ get_or b p 0 ∷ get_or b (p + 1) 0 ∷ get_or b (p + 2) 0 ∷ get_or b (p + 3) 0 ∷ drop (p + 4) b
-drop_four b p h =
-    let e1 : p + 1 + 1 ≡ p + 2 = omega arith in
-    let e2 : p + 2 + 1 ≡ p + 3 = omega arith in
-    let e3 : p + 3 + 1 ≡ p + 4 = omega arith in
-    drop_one b p (omega arith)
-    ∙ rw (drop_one b (p + 1) (omega arith), e1, drop_one b (p + 2) (omega arith), e2, drop_one b (p + 3) (omega arith), e3)
-
-module _ (b : List ℕ) (p : ℕ) where
-  -- a line stands there: there is room for it, and its class is not 0
-  pub line_fits : is_line b p ≡ true → 4 ≤ length b - p
-  unfolding is_line when◌then◌else◌
-  line_fits e = by_test (length b - p <? 4) (λ q. absurd (false≢true (rw q at e))) (λ q. ltb-false (length b - p) 4 q)
-
-  pub line_there : is_line b p ≡ true → lines_of (drop p b) ≡ record { class = get_or b p 0; id = get_or b (p + 1) 0; transition = get_or b (p + 2) 0; zero = get_or b (p + 3) 0 } ∷ lines_of (drop (p + 4) b)
-  unfolding is_line when◌then◌else◌
-  line_there e =
-      let l : 4 ≤ length b - p = line_fits e in
-      let n : not (get_or b p 0 =? 0) ≡ true = rw (le-ltb (length b - p) 4 l) at e in
-      by_test (get_or b p 0 =? 0) (λ q. absurd (false≢true (rw q at n)))
-      (λ q. rw (drop_four b p (omega arith)) (lines_more _ _ _ _ _ (eqb-false _ _ q)))
-
-  pub line_none : is_line b p ≡ false → lines_of (drop p b) ≡ []
-  unfolding is_line when◌then◌else◌
-  line_none e =
-      by_test (length b - p <? 4) (λ q. lines_short (drop p b) (simp length-drop (omega (arith, ltb-true (length b - p) 4 q))))
-      (λ q.
-      let l : 4 ≤ length b - p = ltb-false (length b - p) 4 q in
-      let n : not (get_or b p 0 =? 0) ≡ false = rw q at e in
-      by_test (get_or b p 0 =? 0)
-      (λ z. rw (drop_one b p (omega arith)) (lines_zero _ _ (eqb-true _ _ z)))
-      (λ z. absurd (false≢true (sym (rw z at n)))))
+pub groups_end : (groups : List (List ℕ)) (i : ℕ) → length groups ≤ i → groups_text (drop i groups) ≡ []
+unfolding groups_text
+groups_end groups i h = rw (drop_all i groups h)

@@ -1,21 +1,19 @@
--- Text written into a slice: its bytes, and the place after what is written.
-use Rattle.std.specs.Prelude.{ℕ, ◌+◌, ◌≤◌, List, [], ◌∷◌, ◌≡◌, length, set, take}
+-- Text written into a slice.
+use Rattle.std.specs.Prelude.{ℕ, ◌+◌, ◌≤◌, List, ◌++◌, ◌≡◌, length, take, drop}
+use Rattle.printing.specs.declared.text.Text.{Text}
 
-pub record Writing : Type 0 where
-  pub bytes : List ℕ
-  pub at : ℕ
+-- so many bytes more fit
+abbrev pub HasRoom : ℕ → Text → Type 0
+HasRoom size t = t.filled + size ≤ length t.bytes.now
 
-abbrev pub writing : List ℕ → ℕ → Writing
-writing bytes at = record { bytes = bytes; at = at }
-
-unfoldable pub with_text : List ℕ → Writing → Writing
-with_text [] w = w
-with_text (character ∷ text) w = with_text text (writing (set w.bytes w.at character) (w.at + 1))
-
--- a slice into which the text was written from a place on, and the place after it
-pub record Written (text before : List ℕ) (at : ℕ) (after : List ℕ) (next : ℕ) : Type 0 where
-  pub whole : writing after next ≡ with_text text (writing before at)
-  pub place : next ≡ at + length text
+-- a text was put behind what was written, into the same slice; its bytes after that are as they were
+pub record Adds (text : List ℕ) (before after : Text) : Type 0 where
+  pub same_slice : after.bytes.ghost_name ≡ before.bytes.ghost_name
+  pub size : length after.bytes.now ≡ length before.bytes.now
+  pub filled : after.filled ≡ before.filled + length text
+  pub fits : after.filled ≤ length after.bytes.now
+  pub written : take after.filled after.bytes.now ≡ take before.filled before.bytes.now ++ text
+  pub kept : drop after.filled after.bytes.now ≡ drop after.filled before.bytes.now
 
 -- so many bytes at the front of a slice; the second part follows from the first, and lending the bytes asks for both
 abbrev pub Front : ℕ → List ℕ → Type 0

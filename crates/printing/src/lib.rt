@@ -4,4 +4,4 @@
 
 pub mod lines;
 pub mod script;
-mod text;
+pub mod text;

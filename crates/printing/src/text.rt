@@ -1,54 +1,83 @@
-// Text written into a slice, from a place on; each function answers the place after it.
-ghost use Rattle.std.specs.Prelude.{◌≡◌, [], ◌∷◌, ◌+◌, ◌<◌, ◌≤◌, length};
+// Text that is written into a lent slice.
+ghost use Rattle.std.specs.Prelude.{◌≡◌, [], ◌∷◌, ◌+◌, ◌-◌, ◌<◌, ◌≤◌, length, take};
 ghost use Rattle.machine.specs.Text.{decimal};
-ghost use Rattle.printing.specs.Writing.{Written};
+ghost use Rattle.printing.specs.Writing.{Adds, HasRoom};
 
-pub fn put(out: &mut [u8], at: usize, character: u8) -> usize
-    requires { at < length out.old }
-    ensures { Written (character ∷ []) out.old at out.new result }
-{
-    out[at] = character;
-    at + 1
+// What is written stands in the first bytes, so many as `filled` says. No invariant on the room: each function asks for the room that its
+// text takes.
+#[derive(Drop)]
+pub struct Text<'a> {
+    bytes: &'a mut [u8],
+    filled: usize,
 }
 
-pub fn put_text(out: &mut [u8], at: usize, text: &[u8]) -> usize
-    requires { at + length text.now ≤ length out.old }
-    ensures { Written text.now out.old at out.new result }
-{
-    let mut next = at;
-    let mut i = 0;
-    while i < text.len() {
-        let character = text[i];
-        i += 1;
-        next = put(&mut *out, next, character);
+impl<'a> Text<'a> {
+    // Nothing is written yet.
+    pub fn new(bytes: &'a mut [u8]) -> Text<'a>
+        ensures same_slice { result.bytes.ghost_name ≡ bytes.entry.ghost_name }
+        ensures bytes { result.bytes.now ≡ bytes.old }
+        ensures filled { result.filled ≡ 0 }
+    {
+        Text { bytes, filled: 0 }
     }
-    next
+
+    pub fn written(&self) -> &[u8]
+        requires { HasRoom 0 self.now }
+        ensures { result.now ≡ take self.now.filled self.now.bytes.now }
+    {
+        &self.bytes[..self.filled]
+    }
+
+    // How many more bytes fit.
+    pub fn room(&self) -> usize
+        requires { HasRoom 0 self.now }
+        ensures { result ≡ length self.now.bytes.now - self.now.filled }
+    {
+        self.bytes.len() - self.filled
+    }
+
+    pub(crate) fn put(&mut self, character: u8)
+        requires { HasRoom 1 self.old }
+        ensures { Adds (character ∷ []) self.old self.new }
+    {
+        self.bytes[self.filled] = character;
+        self.filled += 1;
+    }
+
+    pub(crate) fn put_text(&mut self, text: &[u8])
+        requires { HasRoom (length text.now) self.old }
+        ensures { Adds text.now self.old self.new }
+    {
+        let end = self.filled + text.len();
+        self.bytes[self.filled..end].copy_from_slice(text);
+        self.filled = end;
+    }
+
+    // The decimal digits of a number, byte by byte as `Text.decimal` has them; what `Display` writes is promised by no such words.
+    pub(crate) fn put_decimal(&mut self, n: u64)
+        requires { HasRoom (length (decimal n)) self.old }
+        ensures { Adds (decimal n) self.old self.new }
+    {
+        if n >= 10 {
+            self.put_decimal(n / 10);
+        }
+        self.put(digit(n % 10));
+    }
+
+    // A character, and the decimal digits of a number.
+    pub(crate) fn put_number(&mut self, character: u8, n: u64)
+        requires { HasRoom (1 + length (decimal n)) self.old }
+        ensures { Adds (character ∷ decimal n) self.old self.new }
+    {
+        self.put(character);
+        self.put_decimal(n);
+    }
 }
 
+// (A number below 10 fits a byte.)
 fn digit(n: u64) -> u8
     requires { n < 10 }
     ensures { result ≡ 48 + n }
 {
-    48 + n as u8
-}
-
-// The decimal digits of a number.
-pub fn put_decimal(out: &mut [u8], at: usize, n: u64) -> usize
-    requires { at + length (decimal n) ≤ length out.old }
-    ensures { Written (decimal n) out.old at out.new result }
-{
-    if n < 10 {
-        return put(out, at, digit(n));
-    }
-    let next = put_decimal(&mut *out, at, n / 10);
-    put(out, next, digit(n % 10))
-}
-
-// A character, and the decimal digits of a number.
-pub fn put_number(out: &mut [u8], at: usize, character: u8, n: u64) -> usize
-    requires { at + 1 + length (decimal n) ≤ length out.old }
-    ensures { Written (character ∷ decimal n) out.old at out.new result }
-{
-    let number_at = put(&mut *out, at, character);
-    put_decimal(out, number_at, n)
+    b'0' + n as u8
 }

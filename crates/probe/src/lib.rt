@@ -2,8 +2,8 @@
 // out, so that any session can be handed over.
 #![tactic(auto)]
 
-ghost use Rattle.std.specs.Prelude.{List, ◌≡◌, ℕ, length};
-ghost use Rattle.machine.specs.Answers.{read_answer, counts_answer, count_answer};
+ghost use Rattle.std.specs.Prelude.{List, ◌≡◌, ℕ, true, false, length, IfOk, IfErr};
+ghost use Rattle.machine.specs.Answers.{number_of, read_answer, counts_answer, count_answer};
 ghost use Rattle.machine.specs.Load.{load};
 ghost use Rattle.machine.specs.Operations.{command, call, read};
 ghost use Rattle.machine.specs.declared.Call.TheVariants.{Key, Tick};
@@ -12,10 +12,9 @@ ghost use Rattle.document.specs.Loading.{load_result};
 ghost use Rattle.engine.specs.Promises.{call_result};
 ghost use Rattle.probe.specs.Returning.{load_in, call_in, read_in, check_in, count_in};
 
-use answers::{condition_number, number_of};
-use machine::{
-    CallAnswer, Called, CountAnswer, CountsAnswer, LoadAnswer, Loaded, ReadAnswer, Session,
-};
+use machine::{Called, CountAnswer, CountsAnswer, Loaded, Reading, Refusal, Session};
+
+// A flag with numbers beside it, in each of these, since C has no enum with values.
 
 // What a load or a call returned: the number of its refusal, or that it was accepted, with the firings of a call.
 #[repr(C)]
@@ -57,62 +56,54 @@ pub struct ReturnedCount {
     pub count: i32,
 }
 
-fn returned_load(loaded: Loaded) -> ReturnedSession
-    ensures { load_in result ≡ load_result loaded }
+// An answer and a session. An accepted load is as a call with no firings.
+fn returned(answer: Result<u8, Refusal>, session: Session) -> ReturnedSession
+    ensures accepted { IfOk answer (λ firings. (result.accepted ≡ true) × (result.firings ≡ firings)) }
+    ensures refused { IfErr answer (λ refusal. (result.accepted ≡ false) × (result.refusal ≡ number_of refusal)) }
+    ensures same { result.session ≡ session }
 {
-    let session = loaded.session;
-    let answer = loaded.answer;
     match answer {
-        LoadAnswer::Accepted => ReturnedSession {
-            accepted: true,
-            refusal: 0,
-            firings: 0,
-            session,
-        },
-        LoadAnswer::Refused(refusal) => ReturnedSession {
-            accepted: false,
-            refusal: number_of(refusal),
-            firings: 0,
-            session,
-        },
-    }
-}
-
-fn returned_call(called: Called) -> ReturnedSession
-    ensures { (bytes : List ℕ) → call_in result bytes ≡ call_result called bytes }
-{
-    let session = called.session;
-    let answer = called.answer;
-    match answer {
-        CallAnswer::Accepted(firings) => ReturnedSession {
+        Ok(firings) => ReturnedSession {
             accepted: true,
             refusal: 0,
             firings,
             session,
         },
-        CallAnswer::Refused(refusal) => ReturnedSession {
+        Err(refusal) => ReturnedSession {
             accepted: false,
-            refusal: number_of(refusal),
+            refusal: u8::from(refusal),
             firings: 0,
             session,
         },
     }
 }
 
-fn returned_read(answer: ReadAnswer) -> ReturnedReading
+fn returned_load(loaded: Loaded) -> ReturnedSession
+    ensures { load_in result ≡ load_result loaded }
+{
+    returned(loaded.answer.and(Ok(0)), loaded.session)
+}
+
+fn returned_call(called: Called) -> ReturnedSession
+    ensures { (bytes : List ℕ) → call_in result bytes ≡ call_result called bytes }
+{
+    returned(called.answer, called.session)
+}
+
+fn returned_read(answer: Result<Reading, Refusal>) -> ReturnedReading
     ensures { read_in result ≡ read_answer answer }
 {
     match answer {
-        ReadAnswer::Found(reading) => ReturnedReading {
+        Ok(reading) => ReturnedReading {
             accepted: true,
             refusal: 0,
             state: reading.state,
             value: reading.value,
             count: reading.count,
         },
-        ReadAnswer::Refused(refusal) => ReturnedReading {
+        Err(refusal) => ReturnedReading {
             accepted: false,
-            refusal: number_of(refusal),
+            refusal: u8::from(refusal),
             state: 0,
             value: 0,
             count: 0,
@@ -132,11 +123,11 @@ fn returned_check(answer: CountsAnswer) -> ReturnedCheck
         CountsAnswer::Fails(condition) => ReturnedCheck {
             accepted: true,
             refusal: 0,
-            condition: condition_number(condition),
+            condition: u8::from(condition),
         },
         CountsAnswer::Refused(refusal) => ReturnedCheck {
             accepted: false,
-            refusal: number_of(refusal),
+            refusal: u8::from(refusal),
             condition: 0,
         },
     }
@@ -155,12 +146,12 @@ fn returned_count(answer: CountAnswer) -> ReturnedCount
         CountAnswer::Fails(condition) => ReturnedCount {
             accepted: true,
             refusal: 0,
-            condition: condition_number(condition),
+            condition: u8::from(condition),
             count: 0,
         },
         CountAnswer::Refused(refusal) => ReturnedCount {
             accepted: false,
-            refusal: number_of(refusal),
+            refusal: u8::from(refusal),
             condition: 0,
             count: 0,
         },

@@ -1,1 +1,2 @@
-mod ReadEvents
+pub mod ReadEvents
+pub mod Given

@@ -1,2 +1,3 @@
-mod Negative
+mod Cuts
 mod NextStates
+mod Signed

@@ -10,11 +10,7 @@ use machine::{
     RuleRecord, terms,
 };
 
-#[derive(Clone, Copy)]
-pub enum Reading {
-    Read(Record),
-    Refused(Refusal),
-}
+// Functions, and no `From` of a body, which could not stand here: the records' types are another crate's.
 
 fn node_of(body: &[u8]) -> NodeRecord
     ensures { result ≡ node_of body.now }
@@ -104,7 +100,8 @@ fn link_of(body: &[u8]) -> LinkRecord
 }
 
 // The record of a kind and a body.
-fn record_of(kind: usize, body: &[u8]) -> Record
+#[tactic(auto, using(base::specs::Tests::tests), unfolding(machine::specs::Records::record_of))]
+fn record_of(kind: u8, body: &[u8]) -> Record
     ensures { result ≡ record_of kind body.now }
 {
     match kind {
@@ -112,8 +109,8 @@ fn record_of(kind: usize, body: &[u8]) -> Record
         1 => Record::Node(node_of(body)),
         2 => Record::Anchor(anchor_of(body)),
         3 => Record::Property(property_of(body)),
-        4 => Record::Rule(simple_rule_of(body)),
-        5 => Record::Rule(composite_rule_of(body)),
+        terms::SIMPLE_RULE => Record::Rule(simple_rule_of(body)),
+        terms::COMPOSITE_RULE => Record::Rule(composite_rule_of(body)),
         6 => Record::Bind(bind_of(body)),
         7 => Record::Port(port_of(body)),
         8 => Record::Link(link_of(body)),
@@ -122,20 +119,18 @@ fn record_of(kind: usize, body: &[u8]) -> Record
 }
 
 // The record that begins at a place of the document.
-pub fn cut_at(document: &[u8], at: usize) -> Reading
+pub fn cut_at(document: &[u8], at: usize) -> Result<Record, Refusal>
     requires { at < length document.now }
     ensures { reading_of result ≡ cut_from document.now at }
 {
-    let kind = base::index_of(document[at]);
+    let kind = document[at];
     if GREATEST_KIND < kind {
-        return Reading::Refused(Refusal::UnknownKind);
+        return Err(Refusal::UnknownKind);
     }
-    let size = body_length(kind);
     let start = at + 1;
-    let left = document.len() - start;
-    if left < size {
-        return Reading::Refused(Refusal::CutRecord);
-    }
-    let end = start + size;
-    Reading::Read(record_of(kind, &document[start..end]))
+    let end = start + body_length(usize::from(kind));
+    let Some(body) = document.get(start..end) else {
+        return Err(Refusal::CutRecord);
+    };
+    Ok(record_of(kind, body))
 }

@@ -7,8 +7,8 @@ ghost use Rattle.machine.specs.Events.{next_state};
 use crate::fields::byte_at;
 use machine::terms::{OCCURRING, PAUSED, SLEEPING};
 
-// Kinds are 0 to 9.
-pub const GREATEST_KIND: usize = 9;
+// Kinds are 0 to 9. Bytes of a document, in which any may stand.
+pub const GREATEST_KIND: u8 = 9;
 
 // The length of a record's body, by its kind.
 const BODY_LENGTHS: [u8; 10] = [1, 4, 5, 4, 6, 3, 3, 2, 5, 6];
@@ -20,13 +20,15 @@ const NEXT_STATES: [[u8; 5]; 3] = [
     [PAUSED, SLEEPING, SLEEPING, PAUSED, OCCURRING],
 ];
 
+// Of any number, since a caller need not know that it is a kind.
 pub fn body_length(kind: usize) -> usize
     ensures { (result ≡ body_length kind) × (result < 256) }
 {
-    let lengths = BODY_LENGTHS;
-    base::index_of(byte_at(&lengths, kind))
+    usize::from(byte_at(&BODY_LENGTHS, kind))
 }
 
+#[tactic(auto, using(crate::proofs::NextStates::no_row, crate::proofs::NextStates::in_row))]
+// The action is a byte that was asked before; an enum of the five would be turned back into the column here.
 pub fn next_state(state: u8, action: u8) -> u8
     requires { (to_start ≤ action) × (action ≤ to_resume) }
     ensures { result ≡ next_state state action }
@@ -34,7 +36,5 @@ pub fn next_state(state: u8, action: u8) -> u8
     if PAUSED < state {
         return state;
     }
-    let row = base::index_of(state);
-    let column = base::index_of(action) - 1;
-    NEXT_STATES[row][column]
+    NEXT_STATES[usize::from(state)][usize::from(action) - 1]
 }

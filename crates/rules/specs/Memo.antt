@@ -1,37 +1,36 @@
--- What is known while rules are decided: a mark for each rule, 0 for one that is not decided yet.
-use Rattle.std.specs.Prelude.{ℕ, ◌<◌, ◌≤◌, Bool, List, ◌≡◌, ℤ, get_or, length}
-use Rattle.base.specs.Tests.{when◌then◌else◌}
+-- What is known while rules are decided: for each rule whether it holds, or nothing while it is not decided.
+use Rattle.std.specs.Prelude.{ℕ, ◌<◌, ◌≤◌, Bool, List, ◌≡◌, ℤ, get_or, length, Option, Some, None}
 use Rattle.machine.specs.declared.Rules.{Rules}
 use Rattle.machine.specs.Terms.{simple_rule}
 use Rattle.machine.specs.Tables.{rule_at}
 use Rattle.machine.specs.Deciding.{combined, rule_holds}
 
--- 1 does not hold, 2 holds
-unfoldable pub mark_of : Bool → ℕ
-mark_of holds = when holds then 2 else 1
+abbrev pub mark_at : List (Option Bool) → ℕ → Option Bool
+mark_at known i = get_or known i None
 
 -- every rule that has a mark has that of its answer
-abbrev pub Marked : (ℕ → Bool) → List ℕ → Type 0
-Marked answer known = (i : ℕ) → (get_or known i 0 ≡ 0 → ⊥) → get_or known i 0 ≡ mark_of (answer i)
+abbrev pub Marked : (ℕ → Bool) → List (Option Bool) → Type 0
+Marked answer known = (i : ℕ) → (mark_at known i ≡ None → ⊥) → mark_at known i ≡ Some (answer i)
 
 -- what is known of the rules on these values: there is a place for each, marks are right, and every simple rule below the count has one
-pub record Known (rules : Rules) (values : List ℤ) (count : ℕ) (known : List ℕ) : Type 0 where
+pub record Known (rules : Rules) (values : List ℤ) (count : ℕ) (known : List (Option Bool)) : Type 0 where
   pub places : length known ≡ 32
   pub marked : Marked (rule_holds rules values) known
-  pub composite : (i : ℕ) → i < count → get_or known i 0 ≡ 0 → (rule_at rules i).kind ≡ simple_rule → ⊥
+  pub composite : (i : ℕ) → i < count → mark_at known i ≡ None → (rule_at rules i).kind ≡ simple_rule → ⊥
 
 -- every rule up to id that has no mark has two earlier rules
-abbrev pub Earlier : List ℕ → List ℕ → List ℕ → ℕ → Type 0
-Earlier lefts rights known id = (i : ℕ) → i ≤ id → get_or known i 0 ≡ 0 → (get_or lefts i 0 < i) × (get_or rights i 0 < i)
+abbrev pub Earlier : Rules → List (Option Bool) → ℕ → Type 0
+Earlier rules known id = (i : ℕ) → i ≤ id → mark_at known i ≡ None → ((rule_at rules i).left < i) × ((rule_at rules i).right < i)
 
 -- and its answer is combined from theirs
-abbrev pub Combined : (ℕ → Bool) → List ℕ → List ℕ → List ℕ → List ℕ → ℕ → Type 0
-Combined answer operators lefts rights known id =
-    (i : ℕ) → i ≤ id → get_or known i 0 ≡ 0 → answer i ≡ combined (get_or operators i 0) (answer (get_or lefts i 0)) (answer (get_or rights i 0))
+abbrev pub Combined : (ℕ → Bool) → Rules → List (Option Bool) → ℕ → Type 0
+Combined answer rules known id =
+    (i : ℕ) → i ≤ id → mark_at known i ≡ None
+    → answer i ≡ combined (rule_at rules i).operator (answer (rule_at rules i).left) (answer (rule_at rules i).right)
 
 -- rule id was decided: marks stay and it has one, so that it is not decided again; if the marks were right, they are, and so is its answer
-pub record Decided (operators lefts rights known : List ℕ) (id : ℕ) (holds : Bool) (after : List ℕ) : Type 0 where
+pub record Decided (rules : Rules) (known : List (Option Bool)) (id : ℕ) (holds : Bool) (after : List (Option Bool)) : Type 0 where
   pub places : length after ≡ length known
-  pub kept : (i : ℕ) → get_or after i 0 ≡ 0 → get_or known i 0 ≡ 0
-  pub noted : get_or after id 0 ≡ 0 → ⊥
-  pub right : (answer : ℕ → Bool) → Marked answer known → Combined answer operators lefts rights known id → (holds ≡ answer id) × Marked answer after
+  pub kept : (i : ℕ) → mark_at after i ≡ None → mark_at known i ≡ None
+  pub noted : mark_at after id ≡ None → ⊥
+  pub right : (answer : ℕ → Bool) → Marked answer known → Combined answer rules known id → (holds ≡ answer id) × Marked answer after

@@ -1,6 +1,5 @@
 -- A part of a script that was run, as a piece of the printed run.
-use Rattle.std.specs.Prelude.{ℕ, ◌+◌, ◌<◌, ◌≤◌, false, List, ◌++◌, ◌≡◌, length, take, drop}
-use Rattle.machine.specs.Broken.{broken}
+use Rattle.std.specs.Prelude.{ℕ, ◌+◌, ◌<◌, ◌≤◌, List, ◌++◌, ◌≡◌, length, take, drop}
 use Rattle.machine.specs.PrintedRun.{printed_script}
 use Rattle.machine.specs.declared.Call.{Call}
 use Rattle.machine.specs.declared.Call.TheVariants.{Command, Key, Tick}
@@ -23,11 +22,6 @@ call_size (Command a) = 7
 call_size (Key code) = 2
 call_size Tick = 1
 
--- a text that was put after the first `at` bytes of a slice, and the bytes that are filled then
-pub record Added (text before : List ℕ) (at : ℕ) (after : List ℕ) (next : ℕ) : Type 0 where
-  pub front : Front next after
-  pub added : take next after ≡ take at before ++ text
-
 -- "the printed run": whatever bytes follow a script, all of it prints this text, and then what the bytes that are left print from
 -- another number and session on
 pub record GoesOn (number : ℕ) (s : Session) (script printed : List ℕ) (number' : ℕ) (s' : Session) (left : List ℕ) : Type 0 where
@@ -39,19 +33,19 @@ pub record Ends (number : ℕ) (s : Session) (script printed : List ℕ) : Type 
 
 -- what is known by why a part stopped: a call was made and there is no room for one line more; a cut record is left, or nothing; a wrong
 -- record's line was written
-abbrev pub Stopped : (number : ℕ) (s : Session) (script out : List ℕ) (p : Part) → Stop → Type 0
-Stopped number s script out p Full =
-    GoesOn number s script (take p.filled out) p.number p.session (drop p.used script)
+abbrev pub Stopped : (number : ℕ) (s : Session) (script : List ℕ) (s' : Session) (out : List ℕ) (p : Part) → Stop → Type 0
+Stopped number s script s' out p Full =
+    GoesOn number s script (take p.filled out) p.number s' (drop p.used script)
     × (number < p.number)
     × (length out < p.filled + line_room 65_536)
-Stopped number s script out p Cut =
-    GoesOn number s script (take p.filled out) p.number p.session (drop p.used script)
+Stopped number s script s' out p Cut =
+    GoesOn number s script (take p.filled out) p.number s' (drop p.used script)
     × (script_record (drop p.used script) ≡ ScriptRecord.Cut)
-Stopped number s script out p Ended = Ends number s script (take p.filled out)
+Stopped number s script s' out p Ended = Ends number s script (take p.filled out)
 
-pub record Ran (number : ℕ) (s : Session) (script out : List ℕ) (p : Part) : Type 0 where
-  pub unbroken : broken p.session ≡ false
+-- the session before a part was run, and the one after it
+pub record Ran (number : ℕ) (s : Session) (script : List ℕ) (s' : Session) (out : List ℕ) (p : Part) : Type 0 where
   pub front : Front p.filled out
   pub used : p.used ≤ length script
   pub next : p.number ≤ number + p.used
-  pub stopped : Stopped number s script out p p.stop
+  pub stopped : Stopped number s script s' out p p.stop

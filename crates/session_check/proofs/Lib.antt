@@ -1,1 +1,2 @@
 pub mod EmptySession
+pub mod Few

@@ -10,21 +10,13 @@ use machine::Session;
 use state_check::states_right;
 use table_check::tables_obey;
 
-pub fn is_broken(s: Session) -> bool
-    ensures { result ≡ broken s }
+#[tactic(auto, using(crate::proofs::Few::few_nodes), unfolding(machine::specs::Broken::broken))]
+pub fn is_broken(s: &Session) -> bool
+    ensures { result ≡ broken s.now }
 {
-    let d = s.document;
-    let state = s.state;
-    if !tables_obey(d) {
-        return true;
-    }
-    let zero = document_ends_zero(d) & state_ends_zero(d, state);
-    !(zero
-        & states_right(d, state)
-        & choices_right(
-            d.nodes.count,
-            &d.nodes.types,
-            &d.nodes.parents,
-            &state.choices,
-        ))
+    !tables_obey(&s.document)
+        || !document_ends_zero(&s.document)
+        || !state_ends_zero(&s.document, &s.state)
+        || !states_right(&s.document, &s.state)
+        || !choices_right(&s.document.nodes, &s.state.choices)
 }

@@ -1,5 +1,4 @@
 -- What the proofs of several functions use.
-mod Prelude
-pub mod Starts
+mod Finding
 pub mod QueueLaws
 mod ReachLaws

@@ -8,7 +8,7 @@ use borrow.Author.Tests.{eqb-false, eq-eqb}
 use lib.ListN.{length, length-set, get_or, set, replicate}
 use lib.Seq.{get_or-set_same, get_or-set_other}
 use Rattle.base.specs.Tests.{when◌then◌else◌, by_test, ◌=?◌}
-use Rattle.base.specs.Loops.{ascending, ascending_more, ascending_same}
+use Rattle.base.specs.Loops.{ascending_more, ascending_same}
 use Rattle.machine.specs.Terms.{sleeping, occurring, to_start}
 use Rattle.machine.specs.Events.{Run, choices_set, node_state, transition, next_state, line_first, node_to, node_changed, anchor_to, anchor_changed, anchors_moved, media_to, media_moved}
 use Rattle.machine.specs.declared.Anchors.{Anchors}
@@ -16,7 +16,9 @@ use Rattle.machine.specs.declared.Document.{Document}
 use Rattle.machine.proofs.Keep.{chosen, pass_keeps}
 use Rattle.machine.proofs.Effects.{get_d_set, media_any_choices}
 use Rattle.starting.specs.Queues.{queue_of, queue_moved, reach_of, reach_started}
-use Rattle.starting.specs.Reaching.{sleepers, Room, ReachRun}
+use Rattle.starting.specs.Reaching.{sleepers, Room}
+use Rattle.starting.specs.Reached.{Reached, media_by}
+use Rattle.starting.specs.declared.start.Start.{Start}
 
 -- ---- how many sleep: no more than there are, and one less after one wakes
 
@@ -73,39 +75,42 @@ module _ (media : List ℕ) (count n : ℕ) (h : count < length media) where
   unfolding when◌then◌else◌
   ids_more k ids i l = rw (get_d_set media count i n 0 h) (by_test (count =? i) (λ q. rw q k) (λ q. rw q (ids i (omega (arith, eqb-false count i q)))))
 
-module _ (states media : List ℕ) (count n : ℕ) (room : Room states (queue_of media count)) (h : n < 64) (sleeps : get_or states n 0 ≡ sleeping) where
-  less : sleepers (set states n occurring) + 1 ≡ sleepers states
-  less = sleepers_less states n (omega (arith, room.state_places)) sleeps
+-- a sleeping media is put in the queue of a start
+module _ (s : Start) (n : ℕ) (h : n < 64) (sleeps : get_or s.states n 0 ≡ sleeping) where
+  less : sleepers (set s.states n occurring) + 1 ≡ sleepers s.states
+  less = sleepers_less s.states n (omega (arith, s.room.state_places)) sleeps
 
-  pub queue_room : count < 64
-  queue_room = omega (arith, less, room.most)
+  pub queue_room : s.reach.queue.count < 64
+  queue_room = omega (arith, less, s.room.most)
 
-  pub room_more : Room (set states n occurring) (queue_of (set media count n) (count + 1))
+  pub room_more : Room (set s.states n occurring) (queue_of (set s.reach.queue.media s.reach.queue.count n) (s.reach.queue.count + 1))
   room_more = record {
-    state_places = length-set states n occurring ∙ room.state_places;
-    queue_places = length-set media count n ∙ room.queue_places;
-    most = omega (arith, less, room.most);
-    ids = ids_more media count n (omega (arith, queue_room, room.queue_places)) h room.ids;
+    state_places = length-set s.states n occurring ∙ s.room.state_places;
+    queue_places = length-set s.reach.queue.media s.reach.queue.count n ∙ s.room.queue_places;
+    most = omega (arith, less, s.room.most);
+    ids = ids_more s.reach.queue.media s.reach.queue.count n (omega (arith, queue_room, s.room.queue_places)) h s.room.ids;
   }
 
-  pub run_more : (choices : List ℕ) (d : Document) (s x : Run) → ReachRun d.anchors s states (reach_of media count choices) x
-      → ReachRun d.anchors s (set states n occurring) (reach_of (set media count n) (count + 1) choices) (media_moved d.anchors to_start n x)
+  pub media_reached : {s' : Start} → s'.document ≡ s.document → s'.chosen ≡ s.chosen → s'.states ≡ set s.states n occurring
+      → s'.reach ≡ reach_of (set s.reach.queue.media s.reach.queue.count n) (s.reach.queue.count + 1) s.reach.choices → Reached s n (media_by s n) s'
   unfolding reach_started
-  run_more choices d s x a =
-      let has = media_wakes d n x (rw a.nodes sleeps) in
-      record {
-        run = ap (media_moved d.anchors to_start n) a.run
-            ∙ media_any_choices choices d.anchors to_start n _
-            ∙ ap (choices_set choices) (moved_more media count n (omega (arith, queue_room, room.queue_places)) d.anchors to_start s _ refl);
-        nodes = has.states_are ∙ rw a.nodes;
-        values = has.values_stay ∙ a.values;
-      }
+  media_reached document chosen states reach = record {
+    document = document;
+    chosen = chosen;
+    run = λ r x f a levels b.
+        let anchors = s.document.now.anchors in
+        let has = media_wakes s.document.now n x (rw a.states sleeps) in
+        record {
+          run = rw (document, reach)
+              (ap (media_moved anchors to_start n) a.run
+              ∙ media_any_choices s.reach.choices anchors to_start n _
+              ∙ ap (choices_set s.reach.choices) (moved_more s.reach.queue.media s.reach.queue.count n (omega (arith, queue_room, s.room.queue_places)) anchors to_start r _ refl));
+          states = has.states_are ∙ rw (states, a.states);
+          values = has.values_stay ∙ a.values;
+        };
+  }
 
 -- ---- the queue before a start
 
 pub room_none : (states : List ℕ) → length states ≡ 64 → Room states (queue_of (replicate 64 0) 0)
 room_none states places = record { state_places = places; queue_places = refl; most = omega (arith, sleepers_few states); ids = λ i h. absurd (omega arith) }
-
-pub run_none : (anchors : Anchors) (s : Run) → ReachRun anchors s s.state.nodes.states (reach_of (replicate 64 0) 0 s.state.choices) s
-unfolding reach_started queue_moved ascending
-run_none anchors s = record { run = refl; nodes = refl; values = refl }

@@ -2,21 +2,39 @@
 // answer is a queue of media, with the choices.
 #![tactic(auto)]
 
-mod reaching;
+mod start;
 
-ghost use Rattle.std.specs.Prelude.{◌<◌};
-ghost use Rattle.machine.specs.Sound.{Sound};
-ghost use Rattle.starting.specs.Queues.{MediaOfStart};
+ghost use Rattle.std.specs.Prelude.{◌≡◌, ◌<◌, ◌+◌, set, replicate};
+ghost use Rattle.starting.specs.Queues.{queue_of, MediaOfStart};
 
-use choosing::found_children;
-use machine::Document;
-use reaching::{Start, start_context, start_of, start_switch};
+use machine::sound::SoundDocument;
+use start::{Found, Start, found_at};
 
-// The first `count` entries of `media`, in this order.
+// The first `count` entries of `media`, in this order: memory is fixed, and there are no more than 64 nodes.
 #[derive(Clone, Copy)]
 pub struct Queue {
     pub media: [u8; 64],
     pub count: usize,
+}
+
+impl Queue {
+    pub fn new() -> Queue
+        ensures { result ≡ queue_of (replicate 64 0) 0 }
+    {
+        Queue {
+            media: [0; 64],
+            count: 0,
+        }
+    }
+
+    // Media n is the last of the queue. Its id fits a byte, by what is required; so it is cast.
+    pub fn push(&mut self, n: usize)
+        requires { (n < 64) × (self.old.count < 64) }
+        ensures { self.new ≡ queue_of (set self.old.media self.old.count n) (self.old.count + 1) }
+    {
+        self.media[self.count] = n as u8;
+        self.count += 1;
+    }
 }
 
 // What a start reaches: its media, and the choices after it.
@@ -26,65 +44,41 @@ pub struct Reach {
     pub choices: [u8; 64],
 }
 
-// What the start of node n reaches, where nodes have these states, properties these values and switches these choices.
+// What the start of node n reaches, where nodes have these states, properties these values and switches these choices. Lent the three
+// columns that a start reads, and no whole state, since what it promises is of every state that has them.
 pub fn media_of_start(
-    d: Document,
-    states: [u8; 64],
-    values: [i32; 32],
-    choices: [u8; 64],
+    d: &SoundDocument,
+    states: &[u8; 64],
+    values: &[i32; 32],
+    choices: &[u8; 64],
     n: usize,
 ) -> Reach
-    requires { Sound d × (n < d.nodes.count) }
-    ensures { MediaOfStart d states values choices n result }
+    requires { n < d.now.document.nodes.count }
+    ensures { MediaOfStart d.now.document states.now values.now choices.now n result }
 {
-    let nodes = d.nodes;
-    let ports = d.ports;
-    let binds = d.binds;
-    let rules = d.rules;
-    let start = start_of(true, nodes.types[n], states[n]);
-    let mut media = [0u8; 64];
-    let mut left = states;
-    let mut after = choices;
-    let count = match start {
-        Start::Nothing => 0,
-        Start::Media => {
-            media[0] = n as u8;
-            1
+    let document = &d.document;
+    match found_at(document.nodes.types[n], states[n]) {
+        Some(Found::Media) => {
+            let mut queue = Queue::new();
+            queue.push(n);
+            Reach {
+                queue,
+                choices: *choices,
+            }
         }
-        Start::Context => {
-            let chosen = found_children(binds, rules, values);
-            start_context(
-                ports.count,
-                &ports.contexts,
-                &ports.children,
-                &nodes.types,
-                &chosen,
-                &mut left,
-                &mut after,
-                &mut media,
-                0,
-                n,
-            )
+        Some(Found::Context) => {
+            let mut start = Start::new(document, states, values, choices);
+            start.start_context(n);
+            start.reach
         }
-        Start::Switch => {
-            let chosen = found_children(binds, rules, values);
-            start_switch(
-                ports.count,
-                &ports.contexts,
-                &ports.children,
-                &nodes.types,
-                &chosen,
-                &mut left,
-                &mut after,
-                &mut media,
-                0,
-                n,
-            )
+        Some(Found::Switch) => {
+            let mut start = Start::new(document, states, values, choices);
+            start.start_switch(n);
+            start.reach
         }
-    };
-    let queue = Queue { media, count };
-    Reach {
-        queue,
-        choices: after,
+        None => Reach {
+            queue: Queue::new(),
+            choices: *choices,
+        },
     }
 }

@@ -1,178 +1,129 @@
 // The states obey the rules of composites, anchors and clocks.
 #![tactic(auto)]
 
-ghost use Rattle.std.specs.Prelude.{◌≡◌, ℕ, ◌<◌, ◌≤◌, true, false, get_or, replicate};
+ghost use Rattle.std.specs.Prelude.{◌≡◌, ℕ, ◌<◌, ◌≤◌, true, false, replicate};
 ghost use Rattle.base.specs.Tests.{when◌then◌else◌};
 ghost use Rattle.base.specs.Loops.{every};
 ghost use Rattle.base.specs.Marks.{Marked};
 ghost use Rattle.machine.specs.Terms.{occurring, paused, sleeping};
-ghost use Rattle.machine.specs.Tables.{type_of, duration_of, anchor_at};
-ghost use Rattle.machine.specs.Events.{node_state, node_clock, anchor_state, child_in, children_state};
+ghost use Rattle.machine.specs.Tables.{anchor_at};
+ghost use Rattle.machine.specs.Events.{child_in, children_state};
 ghost use Rattle.machine.specs.Broken.{tables_obey, clock_right, node_right, anchor_right, states_right};
-ghost use Rattle.machine.specs.declared.Nodes.{Nodes};
-ghost use Rattle.machine.specs.OfColumns.{nodes_of, anchors_of};
 
-use base::index_of;
-use machine::{Document, State, terms};
+use machine::{Document, Nodes, State, terms};
 
-// A parent is marked where one of its children is occurring, and where one is paused.
-fn mark_parents(
-    count: usize,
-    parents: &[u8; 64],
-    states: &[u8; 64],
-    occurs: &mut [bool; 256],
-    pauses: &mut [bool; 256],
-)
-    requires { (count ≤ 64) × (occurs.old ≡ replicate 256 false) × (pauses.old ≡ replicate 256 false) }
-    ensures { (nodes : Nodes) → nodes.parents ≡ parents.now
-        → Marked (child_in nodes states.now occurring) count occurs.new
-        × Marked (child_in nodes states.now paused) count pauses.new }
+// Of each byte as a parent, whether one of its children is occurring, and whether one is paused.
+#[derive(Drop)]
+struct Marks {
+    occurs: [bool; 256],
+    pauses: [bool; 256],
+}
+
+// Marked in place, since a copy of all marks takes time.
+fn mark_parents(nodes: &Nodes, states: &[u8; 64], marks: &mut Marks)
+    requires { (nodes.now.count ≤ 64)
+        × (marks.old.occurs ≡ replicate 256 false)
+        × (marks.old.pauses ≡ replicate 256 false) }
+    ensures occurs { Marked (child_in nodes.now states.now occurring) nodes.now.count marks.new.occurs }
+    ensures pauses { Marked (child_in nodes.now states.now paused) nodes.now.count marks.new.pauses }
 {
-    let mut next = 0;
-    while next < count {
-        let k = next;
-        next += 1;
-        let parent = index_of(parents[k]);
-        let state = states[k];
-        occurs[parent] = occurs[parent] | (state == terms::OCCURRING);
-        pauses[parent] = pauses[parent] | (state == terms::PAUSED);
+    for n in 0..nodes.count {
+        let parent = usize::from(nodes.parents[n]);
+        marks.occurs[parent] |= states[n] == terms::OCCURRING;
+        marks.pauses[parent] |= states[n] == terms::PAUSED;
     }
 }
 
 // The state that the children give: whether one is occurring, and whether one is paused.
+#[tactic(auto, using(base::specs::Tests::when_tells))]
 fn state_of_children(occurs: bool, pauses: bool) -> u8
     ensures { result ≡ (when occurs then occurring else when pauses then paused else sleeping) }
 {
     if occurs {
-        return terms::OCCURRING;
+        terms::OCCURRING
+    } else if pauses {
+        terms::PAUSED
+    } else {
+        terms::SLEEPING
     }
-    if pauses {
-        return terms::PAUSED;
-    }
-    terms::SLEEPING
 }
 
 // A clock of 0 is always right. No branch, so that many nodes are looked at at once.
-fn clock_right(node_type: u8, duration: u16, state: u8, clock: u16) -> bool
-    ensures { (d : Document) (s : State) (n : ℕ)
-        → type_of d.nodes n ≡ node_type
-        → duration_of d.nodes n ≡ duration
-        → node_state s n ≡ state
-        → node_clock s n ≡ clock
-        → result ≡ clock_right d s n }
+#[tactic(auto, using(base::specs::Tests::when_tells, std::proofs::lemmas::Bool::Decides::nat_tests), unfolding(machine::specs::Broken::clock_right))]
+fn clock_right(d: &Document, s: &State, n: usize) -> bool
+    requires { n < 64 }
+    ensures { result ≡ clock_right d.now s.now n }
 {
-    let is_awake = (node_type == terms::MEDIA) & (state != terms::SLEEPING);
+    let is_awake = (d.nodes.types[n] == terms::MEDIA) & (s.nodes.states[n] != terms::SLEEPING);
+    let duration = d.nodes.durations[n];
+    let clock = s.nodes.clocks[n];
     (is_awake & ((duration == 0) | (clock < duration))) | (clock == 0)
 }
 
-// A node in this state, whose children give the other one.
-fn node_right(node_type: u8, duration: u16, state: u8, clock: u16, children: u8) -> bool
-    ensures { (d : Document) (s : State) (n : ℕ)
-        → type_of d.nodes n ≡ node_type
-        → duration_of d.nodes n ≡ duration
-        → node_state s n ≡ state
-        → node_clock s n ≡ clock
-        → children_state d.nodes s.nodes.states n ≡ children
-        → result ≡ node_right d s n }
+// A node whose children give this state.
+#[tactic(auto, unfolding(machine::specs::Broken::node_right, machine::specs::Broken::composite_right))]
+fn node_right(d: &Document, s: &State, n: usize, children: u8) -> bool
+    requires { n < 64 }
+    ensures { children ≡ children_state d.now.nodes s.now.nodes.states n → result ≡ node_right d.now s.now n }
 {
+    let state = s.nodes.states[n];
     (state <= terms::PAUSED)
-        & ((node_type == terms::MEDIA) | (state == children))
-        & clock_right(node_type, duration, state, clock)
+        & ((d.nodes.types[n] == terms::MEDIA) | (state == children))
+        & clock_right(d, s, n)
 }
 
-fn nodes_right<'a>(
-    count: usize,
-    types: &'a [u8; 64],
-    parents: &'a [u8; 64],
-    durations: &'a [u16; 64],
-    states: &'a [u8; 64],
-    clocks: &'a [u16; 64],
-) -> bool
-    requires { count ≤ 64 }
-    ensures { (d : Document) (s : State)
-        → d.nodes ≡ nodes_of count types.now parents.now durations.now
-        → s.nodes.states ≡ states.now
-        → s.nodes.clocks ≡ clocks.now
-        → result ≡ every (node_right d s) count }
+#[tactic(auto, unfolding(base::specs::Loops::every, machine::specs::Events::children_state))]
+fn nodes_right(d: &Document, s: &State) -> bool
+    requires { d.now.nodes.count ≤ 64 }
+    ensures { result ≡ every (node_right d.now s.now) d.now.nodes.count }
 {
-    let mut occurs: [bool; 256] = [false; 256];
-    let mut pauses: [bool; 256] = [false; 256];
-    mark_parents(count, parents, states, &mut occurs, &mut pauses);
+    let mut marks = Marks {
+        occurs: [false; 256],
+        pauses: [false; 256],
+    };
+    mark_parents(&d.nodes, &s.nodes.states, &mut marks);
     let mut right = true;
-    let mut next = 0;
-    while next < count {
-        let n = next;
-        next += 1;
-        let children = state_of_children(occurs[n], pauses[n]);
-        right = right & node_right(types[n], durations[n], states[n], clocks[n], children);
+    for n in 0..d.nodes.count {
+        let children = state_of_children(marks.occurs[n], marks.pauses[n]);
+        right &= node_right(d, s, n, children);
     }
     right
 }
 
-// An anchor in this state, whose media has this clock and is in the other one.
-fn anchor_right(begin: u16, end: u16, state: u8, clock: u16, media: u8) -> bool
-    ensures { (d : Document) (s : State) (a : ℕ)
-        → (anchor_at d.anchors a).begin ≡ begin
-        → (anchor_at d.anchors a).end ≡ end
-        → anchor_state s a ≡ state
-        → node_clock s (anchor_at d.anchors a).media ≡ clock
-        → node_state s (anchor_at d.anchors a).media ≡ media
-        → result ≡ anchor_right d s a }
+#[tactic(auto, using(base::specs::Tests::when_tells), unfolding(machine::specs::Broken::anchor_right, machine::specs::Broken::anchor_state_in))]
+fn anchor_right(d: &Document, s: &State, a: usize) -> bool
+    requires { (a < 128) × ((anchor_at d.now.anchors a).media < 64) }
+    ensures { result ≡ anchor_right d.now s.now a }
 {
-    if (begin <= clock) & (clock < end) {
-        return state == media;
+    let media = usize::from(d.anchors.media[a]);
+    let clock = s.nodes.clocks[media];
+    let state = s.anchors.states[a];
+    if (d.anchors.begins[a] <= clock) & (clock < d.anchors.ends[a]) {
+        state == s.nodes.states[media]
+    } else {
+        state == terms::SLEEPING
     }
-    state == terms::SLEEPING
 }
 
 // Anchors of media that are given.
-fn anchors_right<'a>(
-    count: usize,
-    media: &'a [u8; 128],
-    begins: &'a [u16; 128],
-    ends: &'a [u16; 128],
-    node_states: &'a [u8; 64],
-    clocks: &'a [u16; 64],
-    states: &'a [u8; 128],
-) -> bool
-    requires { (count ≤ 128) × ((a : ℕ) → a < count → get_or media.now a 0 < 64) }
-    ensures { (d : Document) (s : State)
-        → d.anchors ≡ anchors_of count media.now begins.now ends.now
-        → s.nodes.states ≡ node_states.now
-        → s.nodes.clocks ≡ clocks.now
-        → s.anchors.states ≡ states.now
-        → result ≡ every (anchor_right d s) count }
+#[tactic(auto, unfolding(base::specs::Loops::every))]
+fn anchors_right(d: &Document, s: &State) -> bool
+    requires { (d.now.anchors.count ≤ 128)
+        × ((a : ℕ) → a < d.now.anchors.count → (anchor_at d.now.anchors a).media < 64) }
+    ensures { result ≡ every (anchor_right d.now s.now) d.now.anchors.count }
 {
     let mut right = true;
-    let mut next = 0;
-    while next < count {
-        let a = next;
-        next += 1;
-        let m = index_of(media[a]);
-        right = right & anchor_right(begins[a], ends[a], states[a], clocks[m], node_states[m]);
+    for a in 0..d.anchors.count {
+        right &= anchor_right(d, s, a);
     }
     right
 }
 
-// Of tables that obey.
-pub fn states_right(d: Document, s: State) -> bool
-    requires { tables_obey d ≡ true }
-    ensures { result ≡ states_right d s }
+// Of tables that obey (as the caller has found; a type for that would own a copy of the document).
+#[tactic(auto, unfolding(machine::specs::Broken::states_right))]
+pub fn states_right(d: &Document, s: &State) -> bool
+    requires { tables_obey d.now ≡ true }
+    ensures { result ≡ states_right d.now s.now }
 {
-    nodes_right(
-        d.nodes.count,
-        &d.nodes.types,
-        &d.nodes.parents,
-        &d.nodes.durations,
-        &s.nodes.states,
-        &s.nodes.clocks,
-    ) & anchors_right(
-        d.anchors.count,
-        &d.anchors.media,
-        &d.anchors.begins,
-        &d.anchors.ends,
-        &s.nodes.states,
-        &s.nodes.clocks,
-        &s.anchors.states,
-    )
+    nodes_right(d, s) & anchors_right(d, s)
 }

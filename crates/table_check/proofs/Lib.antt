@@ -1,4 +1,3 @@
-mod Prelude
-mod Verdicts
-mod Full
-mod SamePort
+pub mod Passed
+pub mod Full
+pub mod SamePort

@@ -1,6 +1,6 @@
 -- The same port is there already: its child has a port, and its context is the child's parent.
 use mathlib.Core.Path.{◌≡◌, refl, sym}
-use mathlib.Core.Bool.{Bool, true, false, ◌&&◌, ◌||◌}
+use mathlib.Core.Bool.{Bool, true, false, ◌&&◌, ◌||◌, and-true, and-false, or-true, or-false, or_self}
 use Prim.Native.Nat.{ℕ, zero, suc}
 use native.Mathlib.Omega.{arith}
 use borrow.Author.Tests.{eqb-true, not-false}
@@ -26,6 +26,10 @@ port_parent d p e =
     let i = no_fault _ 7 _ (omega arith) h.1 in
     eqb-true _ _ (not-false _ i.0)
 
+absorb : (a b : Bool) → a && b || b ≡ b
+absorb true b = or_self b
+absorb false b = refl
+
 pub same_port : (d : Document) (r : PortRecord) (i : ℕ) → every (port_obeys d) i ≡ true
     → some (is_port d.ports r) i ≡ (some (is_port_of d.ports r.child) i && parent_of d.nodes r.child =? r.context)
 unfolding some every
@@ -38,18 +42,5 @@ same_port d r (suc i) e =
     (λ q.
     let same : r.child ≡ (port_at d.ports i).child = sym (eqb-true _ _ q) in
     let context : (parent_of d.nodes r.child =? r.context) ≡ ((port_at d.ports i).context =? r.context) = rw (same, parent) in
-    rw (before, q, context) (either (some (is_port_of d.ports r.child) i) ((port_at d.ports i).context =? r.context)))
-    (λ q. rw (before, q) (neither (some (is_port_of d.ports r.child) i) (parent_of d.nodes r.child =? r.context) ((port_at d.ports i).context =? r.context)))
-  where
-    either : (a b : Bool) → a && b || b && true ≡ (a || true) && b
-    either true true = refl
-    either true false = refl
-    either false true = refl
-    either false false = refl
-
-    neither : (a b c : Bool) → a && b || c && false ≡ (a || false) && b
-    neither true true c = refl
-    neither true false true = refl
-    neither true false false = refl
-    neither false b true = refl
-    neither false b false = refl
+    rw (before, q, context, and-true, or-true) (absorb (some (is_port_of d.ports r.child) i) _))
+    (λ q. rw (before, q, and-false, or-false, or-false))

@@ -1,2 +1,1 @@
-mod Prelude
-mod TickLaws
+pub mod TickLaws

@@ -95,7 +95,7 @@ module _ (d : Document) (n : ℕ) (r : Run) where
     found_next : (times table : List ℕ) → LastFound (due_next d.anchors.media times first.state.nodes.clocks) d.anchors.count table
         → get_or table n 0 ≡ past_last (due_at d.anchors.media times n (node_clock r.state n + 1)) d.anchors.count
     unfolding due_next
-    found_next times table found = found.found n low ∙ rw (ap (λ (x : Run). node_clock x.state n) before ∙ later_clocks d n first n (omega arith))
+    found_next times table found = found.noted n low ∙ rw (ap (λ (x : Run). node_clock x.state n) before ∙ later_clocks d n first n (omega arith))
 
     pub due_next_lem : (ending beginning : List ℕ) (stops : Bool)
         → LastFound (due_next d.anchors.media d.anchors.ends first.state.nodes.clocks) d.anchors.count ending

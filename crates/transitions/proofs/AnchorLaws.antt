@@ -10,7 +10,7 @@ use Rattle.machine.specs.Terms.{no_transition, sleeping, occurring, to_stop}
 use Rattle.machine.specs.Tables.{anchor_at}
 use Rattle.machine.specs.Events.{Run, with_state, anchor_state, awake, begins_at, ends_at, transition, anchor_to, anchor_changed, anchor_moved, anchors_moved, media_moved}
 use Rattle.machine.specs.Tick.{with_clock, anchors_passed, passed}
-use Rattle.machine.specs.OfColumns.{anchors_of}
+use Rattle.transitions.specs.Lent.{anchors_of}
 use Rattle.machine.specs.declared.Anchors.{Anchors}
 use Rattle.machine.specs.declared.Document.{Document}
 use Rattle.transitions.specs.declared.media.Due.{Due}

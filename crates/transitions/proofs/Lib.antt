@@ -1,3 +1,2 @@
--- What the proofs of several functions use.
-mod Prelude
-mod AnchorLaws
+-- What the proofs of this crate use.
+pub mod AnchorLaws

@@ -1,7 +1,8 @@
--- The run in which lent columns stand, with the rest of it, which no node and no anchor changes.
+-- The run in which lent tables stand, with the rest of it, which no node and no anchor changes.
 use Rattle.std.specs.Prelude.{ℕ, List}
 use Rattle.machine.specs.Log.{Log}
 use Rattle.machine.specs.Events.{Run}
+use Rattle.machine.specs.declared.Anchors.{Anchors}
 use Rattle.machine.specs.declared.NodeEvents.{NodeEvents}
 use Rattle.machine.specs.declared.AnchorEvents.{AnchorEvents}
 use Rattle.machine.specs.declared.PropertyEvents.{PropertyEvents}
@@ -17,3 +18,7 @@ run_with nodes anchors rest log = record {
   log = log;
   firings = rest.firings;
 }
+
+-- so many anchors, of these columns
+abbrev pub anchors_of : ℕ → List ℕ → List ℕ → List ℕ → Anchors
+anchors_of count media begins ends = record { count = count; media = media; begins = begins; ends = ends }

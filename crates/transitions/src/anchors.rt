@@ -2,52 +2,42 @@
 ghost use Rattle.std.specs.Prelude.{◌≡◌, ◌≤◌};
 ghost use Rattle.machine.specs.Events.{anchors_moved};
 ghost use Rattle.machine.specs.declared.NodeEvents.{NodeEvents};
-ghost use Rattle.machine.specs.OfColumns.{anchor_events_of, anchors_of};
 ghost use Rattle.call_log.specs.LogSlice.{log_of};
 ghost use Rattle.changes.specs.Moves.{moves};
-ghost use Rattle.transitions.specs.Lent.{Rest, run_with};
+ghost use Rattle.transitions.specs.Lent.{Rest, run_with, anchors_of};
 
-use call_log::{Written, emit};
+use call_log::Written;
 use changes::{Moving, anchor_transition, count_after};
-use machine::terms;
+use machine::{AnchorEvents, Anchors, terms};
+use records::fields::anchor_at;
 
-// The anchors of media n that move go to the state, in id order; of so many anchors, with these media, begins and ends.
-pub fn move_anchors<'a>(
-    anchors: usize,
-    media: &'a [u8; 128],
-    begins: &'a [u16; 128],
-    ends: &'a [u16; 128],
-    states: &mut [u8; 128],
-    counts: &mut [u32; 128],
+// Of the first anchors, up to `end`, those of media n that move go to the state, in id order. (An id below 128 fits a byte.)
+#[tactic(auto, using(base::specs::Tests::when_true, base::specs::Tests::when_false, base::specs::Loops::ascending_none, base::specs::Loops::ascending_more, base::specs::Loops::ascending_done, crate::proofs::AnchorLaws::anchor_moved_lem), unfolding(machine::specs::Events::anchors_moved, machine::specs::Events::anchor_changed))]
+pub fn move_anchors(
+    anchors: &Anchors,
+    end: usize,
+    events: &mut AnchorEvents,
     log: &mut [u8],
-    written: Written,
+    written: &mut Written,
     moving: Moving,
     aborting: bool,
     n: usize,
     state: u8,
-) -> Written
-    requires { anchors ≤ 128 }
+)
+    requires { end ≤ 128 }
     ensures { (nodes : NodeEvents) (rest : Rest)
-        → run_with nodes (anchor_events_of states.new counts.new) rest (log_of result log.new)
-        ≡ anchors_moved (anchors_of anchors media.now begins.now ends.now)
+        → run_with nodes events.new rest (log_of written.new log.new)
+        ≡ anchors_moved (anchors_of end anchors.now.media anchors.now.begins anchors.now.ends)
         (moves moving) aborting n state
-        (run_with nodes (anchor_events_of states.old counts.old) rest
-        (log_of written log.old)) }
+        (run_with nodes events.old rest (log_of written.old log.old)) }
 {
-    let mut t = written;
-    let mut next = 0;
-    while next < anchors {
-        let a = next;
-        next += 1;
-        let change = anchor_transition(
-            moving, aborting, n, media[a], begins[a], ends[a], states[a], state,
-        );
+    for a in 0..end {
+        let anchor = anchor_at(anchors, a);
+        let change = anchor_transition(moving, aborting, n, anchor, events.states[a], state);
         if change != terms::NO_TRANSITION {
-            states[a] = state;
-            let count = count_after(change, counts[a]);
-            counts[a] = count;
-            t = emit(&mut *log, t, terms::OF_ANCHOR, a as u8, change);
+            events.states[a] = state;
+            events.counts[a] = count_after(change, events.counts[a]);
+            written.emit(log, terms::OF_ANCHOR, a as u8, change);
         }
     }
-    t
 }

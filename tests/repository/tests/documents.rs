@@ -27,8 +27,8 @@ fn assert_none(wrong: Vec<String>) {
 fn every_name_names_something() {
     let sources = Sources::read();
     let mut wrong = Vec::new();
-    // the list of changes and that of the move to another toolchain name what is gone
-    let of_before = ["CHANGES.md", "PORT.md"];
+    // the list of changes and those of the move to another toolchain and of the design pass name what is gone
+    let of_before = ["CHANGES.md", "PORT.md", "DESIGN-PASS.md"];
     let is_of_today = |file: &&PathBuf| {
         has_extension(file, "md") && !of_before.iter().any(|it| file.ends_with(it))
     };
@@ -93,7 +93,7 @@ fn a_proof_that_is_not_there_is_found() {
         "player: load",
         "transitions: node",
         "events: None.antt",
-        "player: `call` by itself",
+        "player: `command` by itself",
     ] {
         assert_eq!(missing_proofs(cell, "", &sources).len(), 1, "{cell}");
     }

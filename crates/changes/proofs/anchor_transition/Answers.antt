@@ -1,15 +1,13 @@
--- `changes::anchor_transition` meets its contract. Assumes nothing.
-use Rattle.changes.proofs.Prelude.{eq-eqb, ne_eqb, when◌then◌else◌}
+-- What the check leaves open of `changes::anchor_transition`. Assumes nothing.
+use borrow.Author.Tests.{eq-eqb, ne_eqb}
+use Rattle.base.specs.Tests.{when◌then◌else◌}
 use Rattle.changes.proofs.anchor_transition.Goals as goal
+use Rattle.changes.proofs.anchor_transition.Goals.{else-from-n-via-then-from-n+else-moves, else-from-n-via-else-from-n}
 
-pub returns-then-index_of-n : goal.returns-then-index_of-n
+pub returns-else-from-n : goal.returns-else-from-n
 unfolding when◌then◌else◌
-returns-then-index_of-n c = rw (← c.index_of.ensures.same, ne_eqb _ _ c.if-index_of-n.true)
-
-pub returns-then-moves : goal.returns-then-moves
-unfolding when◌then◌else◌
-returns-then-moves c = rw (← c.index_of.ensures.same, eq-eqb _ _ c.if-index_of-n.false, ← c.moves.ensures, c.if-moves.true) c.transition_of.ensures
-
-pub returns : goal.returns
-unfolding when◌then◌else◌
-returns c = rw (← c.index_of.ensures.same, eq-eqb _ _ c.if-index_of-n.false, ← c.moves.ensures, c.if-moves.false)
+returns-else-from-n c =
+    elim c.else-from-n.branch [
+      | else-from-n-via-then-from-n+else-moves w ↦ rw (← c.from.ensures, eq-eqb _ _ w.if-from-n.true, ← w.moves.ensures, w.if-moves.false)
+      | else-from-n-via-else-from-n w ↦ rw (← c.from.ensures, ne_eqb _ _ w.if-from-n.false)
+    ]

@@ -1,6 +1,7 @@
--- `end_check::action_ends_zero` meets its contract. Assumes nothing.
-use Rattle.end_check.proofs.Slots.{places_zero}
+-- What the check leaves open of `end_check::action_ends_zero`. Assumes nothing.
+use Rattle.std.proofs.Common.{arith}
+use Rattle.end_check.proofs.Slots.{int_zero, places_zero}
 use Rattle.end_check.proofs.action_ends_zero.Goals as goal
 
 pub returns : goal.returns
-returns c = rw (c.actions_end_zero.ensures, c.targets_used.ensures, c.values_used.ensures) (places_zero _ _ _ _ c.requires.0 c.requires.1 c.requires.2 c.requires.3 c.requires.4)
+returns c = rw (c.actions_end_zero.ensures, c.used.ensures, c.used-2.ensures) (simp int_zero (places_zero _ _ _ _ (omega arith) c.requires))

@@ -1,12 +1,7 @@
--- `end_check::actions_end_zero` meets its contract. Assumes nothing.
-use Rattle.end_check.proofs.Prelude.{arith, every_none, every_more, every_done}
+-- What the check leaves open of `end_check::actions_end_zero`. Assumes nothing.
+use Rattle.std.proofs.Common.{arith}
+use Rattle.base.specs.Loops.{every_done}
 use Rattle.end_check.proofs.actions_end_zero.Goals as goal
 
-pub loop-next-init : goal.loop-next-init
-loop-next-init c = (omega arith, every_none _)
-
-pub loop-next-preserved : goal.loop-next-preserved
-loop-next-preserved c = (omega arith, every_more _ _ c.loop-next.invariant.1 (λ o. c.link_actions_end_zero-zero.ensures))
-
 pub returns : goal.returns
-returns c = every_done _ _ _ (omega arith) c.loop-next.invariant.1
+returns c = every_done _ _ _ (omega arith) c.loop-link.invariant

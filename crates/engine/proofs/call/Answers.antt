@@ -1,26 +1,28 @@
--- `engine::call` meets its contract. Assumes nothing.
-use mathlib.Core.Path.{sym}
+-- What the check leaves open of `engine::call`. Assumes nothing.
+use Rattle.std.proofs.Common.{sym, rules, length}
 use Rattle.base.specs.Tests.{when◌then◌else◌}
-use Rattle.machine.specs.Operations.{call_admitting}
-use Rattle.machine.proofs.Whole.{unbroken_sound}
 use Rattle.machine.specs.Answers.{numbered}
-use Rattle.engine.proofs.Unbroken.{session_arrays, promised}
-use lib.ListN.{length}
-use Rattle.engine.specs.Promises.{call_result}
+use Rattle.machine.specs.Operations.{call_admitting, run_admitting}
+use Rattle.machine.specs.Sessions.{session_of}
+use Rattle.machine.proofs.Shape.{HasArrays}
+use Rattle.engine.proofs.Unbroken.{ends_unbroken}
 use Rattle.engine.proofs.call.Goals as goal
 
-pub run_call-requires : goal.run_call-requires
+pub returns-in-Err : goal.returns-in-Err
 unfolding call_admitting when◌then◌else◌
-run_call-requires c = (unbroken_sound _ c.requires, sym (rw c.in-Passed.is at c.check_arguments-check.ensures))
+returns-in-Err c = rw (c.args.s.now.unbroken, ← (rw c.in-Err.is at c.check_arguments.ensures), numbered _) (c.refuse.ensures _)
 
-pub returns-in-Passed : goal.returns-in-Passed
-unfolding call_admitting when◌then◌else◌
-returns-in-Passed c =
-    let p = promised c.args.s c.args.c (length c.args.log.now) {r = call_result c.run_call.result c.run_call.new.log} c.requires (session_arrays c.args.s _ c.well_formed.0) (rw (c.requires, ← (rw c.in-Passed.is at c.check_arguments-check.ensures)) c.run_call.ensures) in
-    record { result = p.0; unbroken = p.1 }
+pub begin-requires : goal.begin-requires
+begin-requires c = sym (rw c.in_default.is at c.check_arguments.ensures)
 
-pub returns-in-Refused : goal.returns-in-Refused
-unfolding call_admitting when◌then◌else◌
-returns-in-Refused c =
-    let p = promised c.args.s c.args.c (length c.args.log.now) {r = call_result c.refuse.result c.refuse.new.log} c.requires (session_arrays c.args.s _ c.well_formed.0) (rw (c.requires, ← (rw c.in-Refused.is at c.check_arguments-check.ensures), numbered _) c.refuse.ensures) in
-    record { result = p.0; unbroken = p.1 }
+pub end-requires : goal.end-requires
+unfolding run_admitting
+end-requires c =
+    let arrays : HasArrays c.args.s.now.state = record { nodes = search rules; anchors = search rules; properties = search rules } in
+    rw (c.run_chain.ensures, c.begin.ensures, c.new-w.ensures c.args.log.now, c.run_chain.auto.log, c.begin.auto.log)
+    (ends_unbroken (session_of c.args.s.now) c.args.c (length c.args.log.now) c.args.s.now.unbroken (sym (rw c.in_default.is at c.check_arguments.ensures)) arrays)
+
+pub returns : goal.returns
+unfolding call_admitting run_admitting when◌then◌else◌
+returns c =
+    rw (c.args.s.now.unbroken, ← (rw c.in_default.is at c.check_arguments.ensures), ← c.new-w.ensures c.args.log.now, ← c.begin.ensures, ← c.begin.auto.log, ← c.run_chain.ensures, ← c.run_chain.auto.log) c.end.ensures

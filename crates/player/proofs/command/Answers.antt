@@ -1,4 +1,4 @@
--- `player::command` meets its contract. Assumes nothing.
+-- What the check leaves open of `player::command`. Assumes nothing.
 use mir.Facts.{to_z-of_z}
 use mir.Syntax.{w32}
 use Rattle.player.proofs.command.Goals as goal

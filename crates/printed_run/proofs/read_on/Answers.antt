@@ -1,4 +1,4 @@
--- `printed_run::read_on` meets its contract.
+-- What the check leaves open of `printed_run::read_on`. Assumes nothing.
 use Rattle.std.proofs.Common.{arith, rules}
 use borrow.Rule.Slice.PartMut.{take_put}
 use Rattle.printed_run.proofs.Parts.{more_held}

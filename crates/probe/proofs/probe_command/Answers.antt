@@ -1,4 +1,4 @@
--- `probe::probe_command` meets its contract.
+-- What the check leaves open of `probe::probe_command`. Assumes nothing.
 use Rattle.std.proofs.Common.{◌∙◌, w32, to_z-of_z}
 use Rattle.probe.proofs.probe_command.Goals as goal
 

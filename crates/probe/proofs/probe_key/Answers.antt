@@ -1,4 +1,4 @@
--- `probe::probe_key` meets its contract.
+-- What the check leaves open of `probe::probe_key`. Assumes nothing.
 use Rattle.std.proofs.Common.{◌∙◌}
 use Rattle.probe.proofs.probe_key.Goals as goal
 

@@ -1,4 +1,4 @@
--- `probe::probe_tick` meets its contract.
+-- What the check leaves open of `probe::probe_tick`. Assumes nothing.
 use Rattle.std.proofs.Common.{◌∙◌}
 use Rattle.probe.proofs.probe_tick.Goals as goal
 

@@ -1,4 +1,4 @@
--- `rules::compare` meets its contract. Assumes nothing.
+-- What the check leaves open of `rules::compare`. Assumes nothing.
 use Rattle.machine.specs.Deciding.{compared}
 use Rattle.base.specs.Tests.{when◌then◌else◌}
 use Rattle.base.specs.Bits.{same_bits}

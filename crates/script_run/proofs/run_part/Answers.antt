@@ -1,87 +1,60 @@
--- `script_run::run_part` meets its contract. Assumes nothing.
-use native.Mathlib.Omega.{arith}
-use mathlib.Core.Path.{refl, sym, ◌∙◌}
-use lib.Seq.{length-take-le}
-use Rattle.script_run.proofs.Scripts.{lent_front, call_fits, none_run, ran_call, ran_wrong}
-use borrow.Author.Rules.{rules}
+-- What the check leaves open of `script_run::run_part`. Assumes nothing.
+use Rattle.std.proofs.Common.{◌≡◌, ◌∙◌, sym, ap, ◌+◌, ◌<◌, ◌≤◌, ℕ, List, length, arith, rules, length-take-le}
+use Rattle.script_run.proofs.Scripts.{lent_front, call_fits, ran_call, ran_wrong}
+use Rattle.machine.specs.Sessions.{session_of}
+use Rattle.script_run.specs.Running.{Ran}
 use Rattle.script_run.proofs.run_part.Goals as goal
-
-pub loop-out-init : goal.loop-out-init
-loop-out-init c = (omega arith, omega arith, omega arith, refl, refl, c.requires.0, (λ h. absurd (omega (arith, h))), omega arith, none_run)
-
-pub overflow_sub-out : goal.overflow_sub-out
-overflow_sub-out c = omega (arith, c.loop-out.invariant)
-
-pub call-called-requires : goal.call-called-requires
-call-called-requires c = c.loop-out.invariant.5
-
-pub add_line-filled-requires : goal.add_line-filled-requires
-add_line-filled-requires c = omega (arith, c.loop-out-test.true, c.loop-out.invariant, c.call-called.auto.log, c.requires.1)
+use Rattle.script_run.proofs.run_part.Goals.{then-room-lt-LINE_ROOM, else-room-lt-LINE_ROOM+in-Cut, else-room-lt-LINE_ROOM+in-Wrong}
 
 pub overflow_add-next : goal.overflow_add-next
 overflow_add-next c =
-    let first = lent_front c.args.script.now c.loop-out.used c.record_in.ensures c.in-Call.is in
-    omega (arith, c.loop-out.invariant, c.requires, call_fits c.args.script.now c.loop-out.used _ first)
+    let first = lent_front c.args.script.now c.loop-c.used c.record_in.ensures c.in-Call.is in
+    omega (arith, call_fits c.args.script.now c.loop-c.used _ first)
 
-pub overflow_add-used : goal.overflow_add-used
-overflow_add-used c =
-    let first = lent_front c.args.script.now c.loop-out.used c.record_in.ensures c.in-Call.is in
-    omega (arith, c.loop-out.invariant, c.size_of-used.ensures, call_fits c.args.script.now c.loop-out.used _ first)
+pub loop-c-smaller : goal.loop-c-smaller
+loop-c-smaller c =
+    let first = lent_front c.args.script.now c.loop-c.used c.record_in.ensures c.in-Call.is in
+    omega (arith, c.size_of-used.ensures, call_fits c.args.script.now c.loop-c.used _ first)
 
-pub loop-out-smaller : goal.loop-out-smaller
-loop-out-smaller c =
-    let first = lent_front c.args.script.now c.loop-out.used c.record_in.ensures c.in-Call.is in
-    omega (arith, c.loop-out.invariant, c.size_of-used.ensures, call_fits c.args.script.now c.loop-out.used _ first)
-
-pub loop-out-preserved : goal.loop-out-preserved
-loop-out-preserved c =
-    let first = lent_front c.args.script.now c.loop-out.used c.record_in.ensures c.in-Call.is in
-    let fits = call_fits c.args.script.now c.loop-out.used _ first in
-    let added = c.add_line-filled.ensures c.call-called.result.session in
+pub loop-c-preserved : goal.loop-c-preserved
+loop-c-preserved c =
+    let first = lent_front c.args.script.now c.loop-c.used c.record_in.ensures c.in-Call.is in
+    let fits = call_fits c.args.script.now c.loop-c.used _ first in
+    let adds = c.call_line.ensures (session_of c.call-answer.new.s) in
     rw c.size_of-used.ensures (
+      adds.same_slice ∙ c.loop-c.invariant.0,
+      adds.size ∙ c.loop-c.invariant.1,
+      omega (arith, adds.fits),
       fits.1,
-      omega (arith, fits, c.loop-out.invariant),
-      omega (arith, added.front, c.add_line-filled.auto.out, c.loop-out.invariant),
-      c.call-called.auto.log ∙ c.loop-out.invariant.3,
-      c.add_line-filled.auto.out ∙ c.loop-out.invariant.4,
-      c.call-called.ensures.unbroken,
-      (λ h. omega (arith, c.loop-out.invariant.7)),
-      omega (arith, c.loop-out.invariant.7),
-      ran_call _ _ _ _ c.loop-out.invariant.8 _ _ first (c.call-called.ensures.result ∙ rw (c.loop-out.invariant.3, c.requires.1)) added,
+      omega arith,
+      c.call-answer.auto.log ∙ c.loop-c.invariant.5,
+      (λ h. omega arith),
+      omega arith,
+      ran_call _ _ c.loop-c.invariant.8 _ _ first (c.call-answer.ensures ∙ rw (c.loop-c.invariant.5, c.requires.0)) adds.written,
     )
-
-pub returns-in-Cut : goal.returns-in-Cut
-returns-in-Cut c = record {
-  unbroken = c.loop-out.invariant.5;
-  front = (omega (arith, c.loop-out.invariant), sym (length-take-le _ _ (omega (arith, c.loop-out.invariant))));
-  used = c.loop-out.invariant.0;
-  next = c.loop-out.invariant.1;
-  stopped = (c.loop-out.invariant.8, lent_front c.args.script.now c.loop-out.used c.record_in.ensures c.in-Cut.is);
-}
-
-pub add_script-end-requires : goal.add_script-end-requires
-add_script-end-requires c = omega (arith, c.loop-out-test.true, c.loop-out.invariant)
-
-pub returns-in-Wrong : goal.returns-in-Wrong
-returns-in-Wrong c =
-    let first = lent_front c.args.script.now c.loop-out.used c.record_in.ensures c.in-Wrong.is in
-    record {
-      unbroken = c.loop-out.invariant.5;
-      front = c.add_script-end.ensures.front;
-      used = c.loop-out.invariant.0;
-      next = c.loop-out.invariant.1;
-      stopped = ran_wrong c.loop-out.used _ _ _ c.loop-out.invariant.8 first c.add_script-end.ensures;
-    }
 
 pub returns : goal.returns
 returns c =
-    let goes_on = c.loop-out.invariant.8 in
-    let called = c.loop-out.invariant.6 (omega (arith, c.loop-out-test.false, c.loop-out.invariant, c.requires)) in
-    let full = c.loop-out-test.false in
-    record {
-      unbroken = c.loop-out.invariant.5;
-      front = (omega (arith, c.loop-out.invariant), sym (length-take-le _ _ (omega (arith, c.loop-out.invariant))));
-      used = c.loop-out.invariant.0;
-      next = c.loop-out.invariant.1;
-      stopped = search (rules, c.loop-out.invariant);
-    }
+    let text = c.if-room-lt-LINE_ROOM.text in
+    let slice = ap length c.new-text.ensures.bytes in
+    let room : text.filled ≤ length text.bytes.now = elim c.if-room-lt-LINE_ROOM.branch [
+      | then-room-lt-LINE_ROOM w ↦ rw w.text-is (omega arith)
+      | else-room-lt-LINE_ROOM+in-Cut w ↦ rw w.text-is (omega arith)
+      | else-room-lt-LINE_ROOM+in-Wrong w ↦ rw w.text-is w.script_line.ensures.fits
+    ] in
+    let ran : (n : ℕ) (out : List ℕ) → n ≡ text.filled → out ≡ text.bytes.now
+    → Ran c.args.number (session_of c.args.s.now) c.args.script.now (session_of c.loop-c.s) out (record { number = c.loop-c.next; used = c.loop-c.used; filled = n; stop = c.if-room-lt-LINE_ROOM.stop })
+    = λ n out e f. rw (e, f) (record {
+      front = (room, sym (length-take-le _ _ room));
+      used = c.loop-c.invariant.3;
+      next = c.loop-c.invariant.4;
+      stopped = elim c.if-room-lt-LINE_ROOM.branch [
+        | then-room-lt-LINE_ROOM w ↦
+            let called : c.args.number < c.loop-c.next = omega arith in
+            let full : length c.loop-c.text.bytes.now < c.loop-c.text.filled + 196_658 = omega arith in
+            rw (w.text-is, w.stop-is) (search (rules, c.loop-c.invariant.8))
+        | else-room-lt-LINE_ROOM+in-Cut w ↦ rw (w.text-is, w.stop-is) (c.loop-c.invariant.8, lent_front c.args.script.now c.loop-c.used w.record_in.ensures w.in-Cut.is)
+        | else-room-lt-LINE_ROOM+in-Wrong w ↦ rw (w.text-is, w.stop-is) (ran_wrong _ _ c.loop-c.invariant.8 (lent_front c.args.script.now c.loop-c.used w.record_in.ensures w.in-Wrong.is) w.script_line.ensures.written)
+      ];
+    }) in
+    ran _ _ (rw c.written.ensures (length-take-le _ _ room)) (search rules)

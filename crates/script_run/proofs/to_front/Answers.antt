@@ -1,16 +1,20 @@
--- `script_run::to_front` meets its contract. Assumes nothing.
-use native.Mathlib.Omega.{arith}
-use mathlib.Core.Path.{refl}
-use native.Mathlib.Nat.{le_antisymm}
-use Rattle.script_run.proofs.Scripts.{none_moved, one_moved, all_moved}
-use borrow.Author.Rules.{rules}
+-- What the check leaves open of `script_run::to_front`. Assumes nothing.
+use Rattle.std.proofs.Common.{◌≡◌, ℕ, ◌+◌, ◌-◌, ◌≤◌, List, ◌∙◌, sym, ap, arith, length, take, drop, length-drop, length-take-le}
+use Rattle.std.proofs.Math.Seq.{slice}
+use Rattle.std.proofs.lemmas.List.{drop-take}
+use Rattle.std.proofs.lemmas.List.Edits.{take-paste}
+use Rattle.std.specs.List.{copy_within}
 use Rattle.script_run.proofs.to_front.Goals as goal
 
-pub loop-next-init : goal.loop-next-init
-loop-next-init c = (omega arith, refl, none_moved _ _)
-
-pub loop-next-preserved : goal.loop-next-preserved
-loop-next-preserved c = (omega arith, search rules, one_moved _ _ _ _ c.loop-next.invariant.1 (omega arith) c.loop-next.invariant.2)
+copied : (i j : ℕ) (xs : List ℕ) → i ≤ j → j ≤ length xs → take (j - i) (copy_within xs i j 0) ≡ slice i j xs
+copied i j xs h k =
+    let fits : j - i ≤ length (drop i xs) = omega (arith, length-drop i xs) in
+    let none : 0 + (j - i) ≡ j - i = omega arith in
+    let some : i + (j - i) ≡ j = omega arith in
+    ap (λ (n : ℕ). take n (copy_within xs i j 0)) (sym none) ∙ take-paste xs 0 (drop i xs) (j - i) (omega arith) fits ∙ sym (rw some at (drop-take i (j - i) xs))
 
 pub returns : goal.returns
-returns c = all_moved _ _ _ _ _ (le_antisymm c.loop-next.invariant.0 c.loop-next-test.false) c.requires.0 c.requires.1 c.loop-next.invariant.1 c.loop-next.invariant.2
+returns c = record {
+  front = (omega arith, sym (length-take-le _ _ (omega arith)));
+  printed = rw c.copy_within.ensures.after (copied _ _ _ c.requires.0 c.requires.1);
+}

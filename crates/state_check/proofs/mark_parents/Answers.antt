@@ -1,17 +1,15 @@
--- `state_check::mark_parents` meets its contract. Assumes nothing.
-use Rattle.state_check.proofs.Prelude.{refl, arith}
+-- What the check leaves open of `state_check::mark_parents`. Assumes nothing.
+use Rattle.std.proofs.Common.{refl, arith}
+use Rattle.base.specs.Marks.{noted_none, some_turns, noted_more}
 use Rattle.machine.specs.Events.{child_in}
-use Rattle.base.specs.Marks.{marked_none, marked_more, marked_done}
 use Rattle.state_check.proofs.mark_parents.Goals as goal
 
-pub loop-next-init : goal.loop-next-init
-unfolding child_in
-loop-next-init c = (omega arith, λ nodes p. (rw c.requires.1 (marked_none _), rw c.requires.2 (marked_none _)))
+pub loop-n-init : goal.loop-n-init
+loop-n-init c = record { occurs = rw c.requires.1 (noted_none some_turns _); pauses = rw c.requires.2 (noted_none some_turns _) }
 
-pub loop-next-preserved : goal.loop-next-preserved
+pub loop-n-preserved : goal.loop-n-preserved
 unfolding child_in
-loop-next-preserved c = (omega arith, λ nodes p. (marked_more _ _ _ _ _ _ c.index_of-parent.ensures.small (λ n. rw (p, c.index_of-parent.ensures.same)) refl (c.loop-next.invariant.1 nodes p).0, marked_more _ _ _ _ _ _ c.index_of-parent.ensures.small (λ n. rw (p, c.index_of-parent.ensures.same)) refl (c.loop-next.invariant.1 nodes p).1))
-
-pub returns : goal.returns
-unfolding child_in
-returns c = λ nodes p. (marked_done _ _ _ _ (omega arith) (c.loop-next.invariant.1 nodes p).0, marked_done _ _ _ _ (omega arith) (c.loop-next.invariant.1 nodes p).1)
+loop-n-preserved c = record {
+  occurs = noted_more some_turns _ _ _ _ _ _ (omega arith) (λ n. rw c.from-parent.ensures refl) refl c.loop-n.invariant.occurs;
+  pauses = noted_more some_turns _ _ _ _ _ _ (omega arith) (λ n. rw c.from-parent.ensures refl) refl c.loop-n.invariant.pauses;
+}

@@ -1,23 +1,20 @@
--- `table_check::binds_obey` meets its contract. Assumes nothing.
-use Rattle.table_check.proofs.Prelude.{refl, sym, arith, every_none, every_more, every_done, every_fails, verdict}
-use Rattle.machine.specs.Records.{bind_fault}
+-- What the check leaves open of `table_check::binds_obey`. Assumes nothing.
+use Rattle.std.proofs.Common.{◌<◌, arith, refl}
+use Rattle.base.specs.Loops.{every}
+use Rattle.base.specs.Marks.{noted_none, some_turns, noted_more}
 use Rattle.machine.specs.Broken.{bind_obeys}
-use Rattle.base.specs.Marks.{marked_none, marked_more}
-use Rattle.table_check.proofs.Full.{full_binds}
+use Rattle.table_check.proofs.Passed.{passed}
 use Rattle.table_check.proofs.binds_obey.Goals as goal
 
-pub returns-then-count-gt64 : goal.returns-then-count-gt64
-unfolding bind_obeys
-returns-then-count-gt64 c = λ d n t a u q. every_fails _ 64 _ c.if-count-gt64.true (full_binds d)
+pub loop-i-init : goal.loop-i-init
+unfolding every
+loop-i-init c = (noted_none some_turns _, refl)
 
-pub loop-next-init : goal.loop-next-init
-unfolding bind_obeys
-loop-next-init c = (omega arith, marked_none _, λ d n t a u q. every_none _)
-
-pub loop-next-preserved : goal.loop-next-preserved
-unfolding bind_obeys
-loop-next-preserved c = (omega arith, marked_more _ _ _ _ _ _ c.index_of-s.ensures.small (λ n. rw c.index_of-s.ensures.same) refl c.loop-next.invariant.1, λ d n t a u q. every_more _ _ (c.loop-next.invariant.2 d n t a u q) (λ o. verdict (bind_fault d _) _ _ c.passed-obey.ensures (c.check_bind-check.ensures d n u (rw t (sym (rw c.index_of-s.ensures.same at c.byte_at-switch_type.ensures))) (rw a (sym (rw c.index_of.ensures.same at c.byte_at-parent.ensures))) (rw (q, ← c.index_of-s.ensures.same) (sym (c.loop-next.invariant.1.marked _ c.index_of-s.ensures.small)))) (rw q)))
-
-pub returns : goal.returns
-unfolding bind_obeys
-returns c = λ d n t a u q. every_done _ _ _ (omega arith) (c.loop-next.invariant.2 d n t a u q)
+pub loop-i-preserved : goal.loop-i-preserved
+unfolding every bind_obeys
+loop-i-preserved c =
+    let small : c.from-switch.result < 256 = omega arith in
+    let marked = c.loop-i.invariant.0.noted c.from-switch.result small in (
+      noted_more some_turns _ _ _ _ _ _ small (λ n. rw (c.from-switch.ensures, c.bind_at-bind.ensures) refl) refl c.loop-i.invariant.0,
+      grind (arith, passed, marked, c.check_bind.ensures c.args.d.now),
+    )

@@ -1,18 +1,11 @@
--- `table_check::rules_obey` meets its contract. Assumes nothing.
-use Rattle.table_check.proofs.Prelude.{arith, every_none, every_more, every_done, every_fails}
-use mir.Facts.{to_z-of_z}
-use mir.Syntax.{w32}
-use Rattle.table_check.proofs.Full.{full_rules}
+-- What the check leaves open of `table_check::rules_obey`. Assumes nothing.
+use Rattle.base.specs.Loops.{every_more}
+use Rattle.machine.specs.Broken.{rule_obeys}
+use Rattle.table_check.proofs.Passed.{passed}
 use Rattle.table_check.proofs.rules_obey.Goals as goal
 
-pub returns-then-count-gt32 : goal.returns-then-count-gt32
-returns-then-count-gt32 c = λ d p q. every_fails _ 32 _ c.if-count-gt32.true (full_rules d)
-
-pub loop-next-init : goal.loop-next-init
-loop-next-init c = (omega arith, λ d p q. every_none _)
-
-pub loop-next-preserved : goal.loop-next-preserved
-loop-next-preserved c = (omega arith, λ d p q. every_more _ _ (c.loop-next.invariant.1 d p q) (λ o. c.rule_obeys-obey.ensures d p (rw (q, to_z-of_z {w = w32} (record { sfits = c.record-in-loop-next-3-1.given })))))
-
-pub returns : goal.returns
-returns c = λ d p q. every_done _ _ _ (omega arith) (c.loop-next.invariant.1 d p q)
+pub loop-i-preserved : goal.loop-i-preserved
+unfolding rule_obeys
+loop-i-preserved c =
+    every_more _ _ c.loop-i.invariant
+    (λ o. rw (c.is_ok.ensures.value, passed, c.check_rule.ensures, c.rule_unused_zero.ensures, c.rule_at-rule.ensures))

@@ -1,11 +1,7 @@
--- What stays true in the loop of `ticking::past_last_due`, and what decreases.
-use Rattle.ticking.proofs.Prelude.{◌≤◌, ◌-◌}
+-- What stays true in the loop of `ticking::past_last_due`.
 use Rattle.base.specs.Marks.{LastFound}
 use Rattle.ticking.specs.Advancing.{due_next}
 use Rattle.ticking.proofs.past_last_due.Given as goal
 
-abbrev pub invariant-loop-next : goal.invariant-loop-next
-invariant-loop-next l = (l.next ≤ l.anchors) × LastFound (due_next l.media l.times l.clocks) l.next l.past
-
-abbrev pub decreases-loop-next : goal.decreases-loop-next
-decreases-loop-next l = l.anchors - l.next
+abbrev pub invariant-loop-a : goal.invariant-loop-a
+invariant-loop-a l = LastFound (due_next l.d.document.anchors.media l.times l.clocks) l.a l.past

@@ -1,11 +1,9 @@
--- What stays true in the loop of `counts::links::count_action`, and what decreases.
-use Rattle.counts.proofs.Prelude.{◌≡◌, ◌≤◌, ◌-◌, Document}
+-- What stays true in the loop of `counts::links::count_action`.
+use Rattle.std.proofs.Common.{◌≡◌, ◌-◌}
 use Rattle.base.specs.Loops.{first}
 use Rattle.machine.specs.Counts.{sets_in}
 use Rattle.counts.proofs.links.count_action.Given as goal
 
-abbrev pub invariant-loop-next : goal.invariant-loop-next
-invariant-loop-next l = (l.next ≤ l.end) × ((d : Document) → d.actions.actions ≡ l.actions → d.actions.targets ≡ l.targets → first (sets_in d l.property l.link) l.end 0 ≡ first (sets_in d l.property l.link) (l.end - l.next) l.next)
-
-abbrev pub decreases-loop-next : goal.decreases-loop-next
-decreases-loop-next l = l.end - l.next
+abbrev pub invariant-loop-j : goal.invariant-loop-j
+invariant-loop-j l =
+    first (sets_in l.d.document l.property l.link) l.count 0 ≡ first (sets_in l.d.document l.property l.link) (l.count - l.j) l.j

@@ -1,29 +1,18 @@
--- `counts::links::count_link` meets its contract. Assumes nothing.
-use Rattle.counts.proofs.Prelude.{refl, sym, ◌∙◌, arith, eq-eqb, ne_eqb}
-use Rattle.base.specs.Loops.{first_none, first_skip, first_hit, first_end}
-use Rattle.machine.specs.Counts.{is_count_link, is_count_link_of, count_link}
+-- What the check leaves open of `counts::links::count_link`. Assumes nothing.
+use Rattle.std.proofs.Common.{◌≡◌, sym, ◌∙◌, arith}
+use Rattle.base.specs.Loops.{first_skip, first_hit, first_end}
+use Rattle.machine.specs.Counts.{count_link}
 use Rattle.counts.proofs.links.count_link.Goals as goal
 
-pub loop-next-init : goal.loop-next-init
-unfolding is_count_link is_count_link_of count_link
-loop-next-init c = (omega arith, first_none _ _)
+pub returns-then-is_count_link_of : goal.returns-then-is_count_link_of
+unfolding count_link
+returns-then-is_count_link_of c = first_hit _ _ _ c.loop-l.invariant c.loop-l-test.true (sym c.is_count_link_of.ensures ∙ c.if-is_count_link_of.true)
 
-pub times_set-times-requires : goal.times_set-times-requires
-unfolding is_count_link is_count_link_of count_link
-times_set-times-requires c = (omega (arith, c.requires.links), c.requires.actions _ c.loop-next-test.true)
-
-pub returns-then-is_count_link : goal.returns-then-is_count_link
-unfolding is_count_link is_count_link_of count_link
-returns-then-is_count_link c = first_hit _ _ _ c.loop-next.invariant.1 c.loop-next-test.true (rw (eq-eqb _ _ c.if-links-l.true, ← c.times_set-times.ensures c.args.d refl refl refl) (sym c.is_count_link.ensures ∙ c.if-is_count_link.true))
-
-pub loop-next-preserved-else-is_count_link : goal.loop-next-preserved-else-is_count_link
-unfolding is_count_link is_count_link_of count_link
-loop-next-preserved-else-is_count_link c = (omega arith, first_skip _ _ _ c.loop-next.invariant.1 c.loop-next-test.true (rw (eq-eqb _ _ c.if-links-l.true, ← c.times_set-times.ensures c.args.d refl refl refl) (sym c.is_count_link.ensures ∙ c.if-is_count_link.false)))
-
-pub loop-next-preserved : goal.loop-next-preserved
-unfolding is_count_link is_count_link_of count_link
-loop-next-preserved c = (omega arith, first_skip _ _ _ c.loop-next.invariant.1 c.loop-next-test.true (rw (ne_eqb _ _ c.if-links-l.false)))
+pub loop-l-preserved : goal.loop-l-preserved
+loop-l-preserved c = first_skip _ _ _ c.loop-l.invariant c.loop-l-test.true (sym c.is_count_link_of.ensures ∙ c.if-is_count_link_of.false)
 
 pub returns : goal.returns
-unfolding is_count_link is_count_link_of count_link
-returns c = first_end _ _ _ c.loop-next.invariant.1 c.loop-next-test.false
+unfolding count_link
+returns c =
+    let past : c.args.d.now.document.links.count ≡ c.loop-l.l = omega arith in
+    past ∙ first_end _ _ _ c.loop-l.invariant c.loop-l-test.false

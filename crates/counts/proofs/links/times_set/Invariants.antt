@@ -1,11 +1,8 @@
--- What stays true in the loop of `counts::links::times_set`, and what decreases.
-use Rattle.counts.proofs.Prelude.{◌≡◌, ◌≤◌, ◌-◌, Document}
+-- What stays true in the loop of `counts::links::times_set`.
+use Rattle.std.proofs.Common.{◌≡◌, ◌≤◌}
 use Rattle.base.specs.Loops.{passing}
 use Rattle.machine.specs.Counts.{sets_in}
 use Rattle.counts.proofs.links.times_set.Given as goal
 
-abbrev pub invariant-loop-next : goal.invariant-loop-next
-invariant-loop-next l = (l.next ≤ l.end) × (l.times ≤ l.next) × ((d : Document) → d.actions.actions ≡ l.actions → d.actions.targets ≡ l.targets → l.times ≡ passing (sets_in d l.property l.link) l.next)
-
-abbrev pub decreases-loop-next : goal.decreases-loop-next
-decreases-loop-next l = l.end - l.next
+abbrev pub invariant-loop-j : goal.invariant-loop-j
+invariant-loop-j l = (l.times ≤ l.j) × (l.times ≡ passing (sets_in l.d.document l.property l.link) l.j)

@@ -1,17 +1,13 @@
--- `document::checking::has_default` meets its contract. Assumes nothing.
+-- What the check leaves open of `document::checking::has_default`. Assumes nothing.
+use Rattle.std.proofs.Common.{sym, ◌∙◌}
 use Rattle.base.specs.Loops.{some_none, some_more, one_some}
-use mathlib.Core.Path.{◌≡◌, sym, ◌∙◌}
-use native.Mathlib.Omega.{arith}
 use Rattle.document.proofs.checking.has_default.Goals as goal
 
-pub loop-next-init : goal.loop-next-init
-loop-next-init c = (omega arith, some_none _)
+pub loop-b-init : goal.loop-b-init
+loop-b-init c = some_none _
 
-pub returns-then-is_default_of : goal.returns-then-is_default_of
-returns-then-is_default_of c = sym (one_some _ _ _ c.loop-next-test.true (sym (rw (c.byte_at.ensures, c.byte_at-in-loop-next.ensures) at c.is_default_of.ensures) ∙ c.if-is_default_of.true))
+pub returns-then-is_default : goal.returns-then-is_default
+returns-then-is_default c = sym (one_some _ _ _ c.loop-b-test.true (sym c.is_default.ensures ∙ c.if-is_default.true))
 
-pub loop-next-preserved : goal.loop-next-preserved
-loop-next-preserved c = (omega arith, some_more _ _ c.loop-next.invariant.1 (sym (rw (c.byte_at.ensures, c.byte_at-in-loop-next.ensures) at c.is_default_of.ensures) ∙ c.if-is_default_of.false))
-
-pub returns : goal.returns
-returns c = let e : c.args.end ≡ c.loop-next.next = omega arith in rw e (sym c.loop-next.invariant.1)
+pub loop-b-preserved : goal.loop-b-preserved
+loop-b-preserved c = some_more _ _ c.loop-b.invariant (sym c.is_default.ensures ∙ c.if-is_default.false)

@@ -1,29 +1,27 @@
--- `document::loading::load` meets its contract. Assumes nothing.
-use mathlib.Core.Path.{◌∙◌}
-use native.Mathlib.Omega.{arith}
-use Rattle.document.proofs.Records.{begins, stops, right, goes_on, ends}
+-- What the check leaves open of `document::loading::load`. Assumes nothing.
+use Rattle.std.proofs.Common.{◌∙◌}
+use Rattle.document.proofs.Records.{begins, stops, right, goes_on, ends, no_records, no_node, loaded}
 use Rattle.document.proofs.loading.load.Goals as goal
 
 pub loop-at-init : goal.loop-at-init
 loop-at-init c = begins _ _ c.empty_session-s.ensures
 
+pub enter-requires : goal.enter-requires
+enter-requires c = (right _ c.loop-at.s _ c.loop-at-test.true c.loop-at.invariant _ c.in-Ok.ensures, c.loop-at.invariant.links)
+
 pub returns-in_default : goal.returns-in_default
-returns-in_default c = rw (c.answer_of.ensures, c.empty_session.ensures, c.in_default.is) (stops _ c.loop-at.s _ c.loop-at-test.true c.loop-at.invariant _ (rw c.in_default.is at c.read_at-reading.ensures))
-
-pub enter-s-requires : goal.enter-s-requires
-enter-s-requires c = (right _ c.loop-at.s _ c.loop-at-test.true c.loop-at.invariant _ (rw c.in-Read.is at c.read_at-reading.ensures), c.loop-at.invariant.links)
-
-pub overflow_add-at : goal.overflow_add-at
-overflow_add-at c = omega (arith, c.loop-at-test.true, c.well_formed.0.0)
-
-pub overflow_add-at-in-loop-at : goal.overflow_add-at-in-loop-at
-overflow_add-at-in-loop-at c = omega (arith, c.loop-at-test.true, c.body_length-size.ensures.1, c.well_formed.0.0)
-
-pub loop-at-smaller : goal.loop-at-smaller
-loop-at-smaller c = omega (arith, c.loop-at-test.true)
+returns-in_default c =
+    rw (c.and.ensures, c.in_default.is, c.empty_session.ensures)
+    (stops _ c.loop-at.s _ c.loop-at-test.true c.loop-at.invariant _ (rw c.in_default.is at c.read_at-reading.ensures))
 
 pub loop-at-preserved : goal.loop-at-preserved
-loop-at-preserved c = goes_on _ c.loop-at.s _ c.loop-at-test.true c.loop-at.invariant _ (rw c.in-Read.is at c.read_at-reading.ensures) _ _ (rw c.index_of.ensures.same at c.body_length-size.ensures.0) c.enter-s.ensures
+loop-at-preserved c = goes_on _ c.loop-at.s _ c.loop-at-test.true c.loop-at.invariant _ c.in-Ok.ensures _ _ (rw c.from.ensures at c.body_length.ensures.0) c.enter.ensures
+
+pub returns-then-s-eq0 : goal.returns-then-s-eq0
+returns-then-s-eq0 c = c.refuse.ensures ∙ (no_records c.loop-at.s c.if-s-eq0.true ∙ ends _ _ _ c.loop-at-test.false c.loop-at.invariant)
+
+pub returns-then-s-eq0-2 : goal.returns-then-s-eq0-2
+returns-then-s-eq0-2 c = c.refuse-then-s-eq0-2.ensures ∙ (no_node c.loop-at.s c.if-s-eq0.false c.if-s-eq0-2.true ∙ ends _ _ _ c.loop-at-test.false c.loop-at.invariant)
 
 pub returns : goal.returns
-returns c = c.finish.ensures ∙ ends _ _ _ c.loop-at-test.false c.loop-at.invariant
+returns c = loaded c.loop-at.s c.if-s-eq0.false c.if-s-eq0-2.false ∙ ends _ _ _ c.loop-at-test.false c.loop-at.invariant

@@ -1,20 +1,21 @@
--- `printing::script::record_in` meets its contract. Assumes nothing.
-use mathlib.Core.Path.{◌≡◌, sym, ◌∙◌}
-use Prim.Native.Nat.{◌+◌, ◌-◌}
-use native.Mathlib.Omega.{arith}
-use Rattle.printing.proofs.ScriptRecords.{record_none, record_wrong, record_cut, record_whole}
+-- What the check leaves open of `printing::script::record_in`. Assumes nothing.
+use Rattle.std.proofs.Common.{◌≡◌, ℕ, List, [], ◌∷◌, ◌-◌, ◌<◌, ◌≤◌, arith, length, get_or, take, drop, refl, take_all}
+use Rattle.printing.specs.declared.script.ScriptRecord.{ScriptRecord}
+use Rattle.printing.specs.Script.{record_after, script_record}
 use Rattle.printing.proofs.script.record_in.Goals as goal
 
-pub returns-then-bytes-lt1 : goal.returns-then-bytes-lt1
-returns-then-bytes-lt1 c = record_none _ c.if-bytes-lt1.true
+record_cons : (b : List ℕ) → 1 ≤ length b → record_after (get_or b 0 0) (take (length b - 1) (drop 1 b)) ≡ script_record b
+unfolding script_record
+record_cons [] h = absurd (omega arith)
+record_cons (kind ∷ rest) h = rw (take_all (length (kind ∷ rest) - 1) rest (omega arith))
 
-pub returns-then-is_unknown : goal.returns-then-is_unknown
-returns-then-is_unknown c = record_wrong _ c.if-bytes-lt1.false _ c.index_of-kind.ensures.same (sym c.is_unknown.ensures ∙ c.if-is_unknown.true)
+pub returns-in-len1-up : goal.returns-in-len1-up
+returns-in-len1-up c = rw c.record_after.ensures (record_cons _ c.in-len1-up.len_at_least)
 
-pub returns-then-bytes-length : goal.returns-then-bytes-length
-returns-then-bytes-length c = record_cut _ c.if-bytes-lt1.false _ c.index_of-kind.ensures.same (sym c.is_unknown.ensures ∙ c.if-is_unknown.false) (rw c.length_of-length.ensures at c.if-bytes-length.true)
+record_none : (b : List ℕ) → length b < 1 → ScriptRecord.Cut ≡ script_record b
+unfolding script_record
+record_none [] h = refl
+record_none (kind ∷ rest) h = absurd (omega arith)
 
-pub returns : goal.returns
-returns c =
-    let n : 1 + c.length_of-length.result - 1 ≡ c.length_of-length.result = omega arith in
-    rw (c.call_of.ensures, n, c.length_of-length.ensures) (record_whole _ c.if-bytes-lt1.false _ c.index_of-kind.ensures.same (sym c.is_unknown.ensures ∙ c.if-is_unknown.false) (rw c.length_of-length.ensures at c.if-bytes-length.false))
+pub returns-in-empty : goal.returns-in-empty
+returns-in-empty c = record_none _ c.in-empty.len_below

@@ -1,21 +1,20 @@
--- `records::reading::cut_at` meets its contract. Assumes nothing.
-use Rattle.base.specs.Tests.{when◌then◌else◌}
-use Rattle.machine.specs.Load.{cut_at}
-use borrow.Author.Tests.{lt-ltb, le-ltb}
-use native.Mathlib.Omega.{arith}
-use mathlib.Core.Path.{◌≡◌}
-use Prim.Native.Nat.{◌+◌, ◌-◌}
-use lib.ListN.{length-drop}
+-- What the check leaves open of `records::reading::cut_at`. Assumes nothing.
+use Rattle.std.proofs.Common.{arith, ◌≡◌, ◌<◌, ◌+◌, length}
+use Rattle.machine.specs.Records.{body_length}
+use Rattle.records.proofs.Cuts.{cut_unknown, cut_short, cut_whole, kind}
 use Rattle.records.proofs.reading.cut_at.Goals as goal
 
 pub returns-then-kind-gt-GREATEST_KIND : goal.returns-then-kind-gt-GREATEST_KIND
-unfolding cut_at when◌then◌else◌
-returns-then-kind-gt-GREATEST_KIND c = rw (← c.index_of-kind.ensures.same, lt-ltb _ _ c.if-kind-gt-GREATEST_KIND.true)
+returns-then-kind-gt-GREATEST_KIND c = cut_unknown c.args.document.now c.args.at c.if-kind-gt-GREATEST_KIND.true
 
-pub returns-then-left-size : goal.returns-then-left-size
-unfolding cut_at when◌then◌else◌
-returns-then-left-size c = rw (← c.index_of-kind.ensures.same, le-ltb _ _ c.if-kind-gt-GREATEST_KIND.false, length-drop, ← c.body_length-size.ensures.0, lt-ltb _ _ c.if-left-size.true)
+pub returns-in_default : goal.returns-in_default
+returns-in_default c =
+    let e : c.body_length.result ≡ body_length (kind c.args.document.now c.args.at) = rw c.from.ensures at c.body_length.ensures.0 in
+    let l : length c.args.document.now < c.args.at + 1 + c.body_length.result = omega (arith, c.in_default.ensures.lookup.0) in
+    cut_short c.args.document.now c.args.at c.if-kind-gt-GREATEST_KIND.false _ e c.requires l
 
 pub returns : goal.returns
-unfolding cut_at when◌then◌else◌
-returns c = let start = c.args.at + 1 in let size = c.body_length-size.result in let n : start + size - start ≡ size = omega arith in rw (← c.index_of-kind.ensures.same, le-ltb _ _ c.if-kind-gt-GREATEST_KIND.false, length-drop, ← c.body_length-size.ensures.0, le-ltb _ _ c.if-left-size.false, c.record_of.ensures, n)
+returns c =
+    let e : c.body_length.result ≡ body_length (kind c.args.document.now c.args.at) = rw c.from.ensures at c.body_length.ensures.0 in
+    let found = c.in-Some.ensures.lookup.0 in
+    rw c.record_of.ensures (cut_whole c.args.document.now c.args.at c.if-kind-gt-GREATEST_KIND.false _ e found.1 _ found.2)

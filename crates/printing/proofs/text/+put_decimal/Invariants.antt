@@ -1,5 +1,0 @@
--- The measure of `printing::text::put_decimal`: it calls itself on a tenth.
-use Rattle.printing.proofs.text.+put_decimal.Given as goal
-
-abbrev pub decreases-put_decimal : goal.decreases-put_decimal
-decreases-put_decimal l = l.n

@@ -1,7 +1,0 @@
--- `records::fields::number_at` meets its contract. Assumes nothing.
-use lib.ListN.{get_or-eq_default}
-use mathlib.Core.Path.{sym}
-use Rattle.records.proofs.fields.number_at.Goals as goal
-
-pub returns : goal.returns
-returns c = sym (get_or-eq_default c.args.table.now 0 c.if-at-table.false)

@@ -1,5 +1,0 @@
--- `records::reading::bind_of` meets its contract. Assumes nothing.
-use Rattle.records.proofs.reading.bind_of.Goals as goal
-
-pub returns : goal.returns
-returns c = rw (c.byte_at.ensures, c.byte_at-2.ensures, c.byte_at-3.ensures)

@@ -1,7 +1,0 @@
--- `records::reading::simple_rule_of` meets its contract. Assumes nothing.
-use mir.Facts.{to_z-of_z}
-use mir.Syntax.{w32}
-use Rattle.records.proofs.reading.simple_rule_of.Goals as goal
-
-pub returns : goal.returns
-returns c = rw (c.byte_at.ensures, c.byte_at-2.ensures, to_z-of_z {w = w32} (record { sfits = c.i32_at.type_inv }), c.i32_at.ensures)

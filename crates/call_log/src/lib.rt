@@ -10,7 +10,7 @@ ghost use Rattle.call_log.specs.LogSlice.{lines_in, log_of};
 use machine::{Line, Refusal};
 
 // What is written of a call's log: so many lines; and what stops the call, nothing or the refusal that was met first.
-// The slice is lent beside it: it is the caller's, handed in by C.
+// The slice is lent beside it: held in here it would give a lifetime to this and to all that have one, and would be no plainer.
 #[derive(Clone, Copy)]
 pub struct Written {
     pub lines: usize,
@@ -25,7 +25,7 @@ impl Written {
         self.stop.is_ok()
     }
 
-    // A refusal is met.
+    // The refusal stops the call, unless one was met before.
     pub fn meet(&mut self, refusal: Refusal)
         ensures { (bytes : List ℕ) → log_of self.new bytes ≡ met (number_of refusal) (log_of self.old bytes) }
     {

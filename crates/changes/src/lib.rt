@@ -24,7 +24,7 @@ pub fn transition_of(aborting: bool, old: u8, new: u8) -> u8
     }
 }
 
-// The occurrence count after a transition. A transition is 01's number: a type for the six would take fewer numbers than the callers have.
+// The occurrence count after a transition. A transition is 01's number: a type for the six would take fewer numbers, and so ask more of callers.
 pub fn count_after(change: u8, count: u32) -> u32
     ensures { result ≡ counted change count }
 {

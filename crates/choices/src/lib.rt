@@ -17,7 +17,7 @@ fn is_chosen(parent_type: u8, choice: usize, child: usize) -> bool
     (parent_type != terms::SWITCH) | (choice == child)
 }
 
-// Whether every switch above the owner chose the child on the path. A walk by parents has no index to count: a `while`.
+// Whether every switch above the owner chose the child on the path. Lent the choices alone, so that it is said of every state that has them. A walk by parents has no index to count: a `while`.
 #[tactic(auto, using(crate::proofs::PathLaws::path_ends), unfolding(machine::specs::Owners::path_chosen, machine::specs::Owners::is_chosen))]
 pub fn path_chosen(nodes: &Nodes, choices: &[u8; 64], owner: usize) -> bool
     requires { (owner < 64) × Earlier nodes.now.parents owner }

@@ -50,7 +50,7 @@ fn bind_rule_holds(rules: &Rules, known: &mut [Option<bool>; 32], rule: u8) -> b
 }
 
 // The child that each switch finds: that of its first bind whose rule holds, else that of its default; 0 where there is none.
-// What is known of the rules is shared by all binds.
+// What is known of the rules is shared by all binds. What is asked of rules is of their table alone, as in `rules`.
 pub fn found_children(binds: &Binds, rules: &Rules, values: &[i32; 32]) -> [u8; 64]
     requires { SoundBinds binds.now rules.now × SoundRules 32 rules.now }
     ensures { FoundChildren binds.now rules.now values.now result }

@@ -1,5 +1,4 @@
-// The conditions on the anchors of a media. No branch in the loops that ask every anchor, so that many are looked at at once; `has_anchor`
-// searches by a `for`, as `document::checking` does.
+// The conditions on the anchors of a media. Loops and not `all` and `any`, of which the trials are told in `choices` and `document`.
 ghost use Rattle.std.specs.Prelude.{◌≡◌, ℕ, ◌<◌};
 ghost use Rattle.base.specs.Marks.{Numbered};
 ghost use Rattle.machine.specs.Counts.{is_anchor_of, is_count_link_of, has_anchor, apart, apart_from_earlier, disjoint, each_has_one_link};

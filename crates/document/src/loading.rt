@@ -128,7 +128,7 @@ fn read_at(d: &Document, document: &[u8], at: usize) -> Result<Record, Refusal>
     reading
 }
 
-// A record is taken from its reading by let else, whose other branch returns the refusal.
+// Where a record is refused, the session is the empty one.
 pub fn load(document: &[u8]) -> Loaded
     ensures { load_result result ≡ load document.now }
 {

@@ -13,7 +13,7 @@ use machine::{
     PropertyEvents, Rules, State,
 };
 
-// Whether each entry from a place on is 0, of its type. No branch, so that many entries are looked at at once.
+// Whether each entry from a place on is 0, of its type. No early end: each turn is the same.
 fn zero_from<T: Copy + PartialEq>(table: &[T], end: usize, zero: T) -> bool
     ensures { result ≡ all (λ x. T.eq x zero) (drop end table.now) }
 {
@@ -130,7 +130,7 @@ fn used<T: Copy + PartialEq>(actions: &[u8; 512], column: &[T], zero: T) -> bool
     all_used
 }
 
-// Of links whose actions are none of them 0: a place without an action has no target and no value.
+// Of links whose actions are none of them 0: a place without an action has no target and no value. Of the links it looks at the counts alone.
 fn action_ends_zero(counts: &[u8; 64], actions: &Actions) -> bool
     requires { Used counts.now actions.now.actions }
     ensures { result ≡ all ends_zero (action_tables counts.now actions.now.actions actions.now.targets actions.now.values) }
@@ -140,8 +140,8 @@ fn action_ends_zero(counts: &[u8; 64], actions: &Actions) -> bool
         & used(&actions.actions, &actions.values, 0)
 }
 
-// Of tables that obey (so the caller has found; a type for that would own a copy of the document, for three calls in one expression). The
-// actions are looked at once no link past the end has any.
+// Of tables that obey, as the caller has found (a struct that lends the document with this fact would be made for two calls in one
+// expression, and is no plainer). The actions are looked at once no link past the end has any.
 fn links_end_zero(d: &Document) -> bool
     requires { tables_obey d.now ≡ true }
     ensures { result ≡ (ends_zero (link_table d.now.links)

@@ -1,4 +1,5 @@
-// An action on several media: those of a queue, or all below a target.
+// An action on several media: those of a queue, or all below a target. The action is a byte that was asked before, as `next_state` says; what
+// is asked of nodes is of their table alone, since a sound document would ask more of callers.
 ghost use Rattle.std.specs.Prelude.{◌≡◌, ◌&&◌, ◌<◌, ◌≤◌};
 ghost use Rattle.machine.specs.Terms.{to_start, to_resume};
 ghost use Rattle.machine.specs.Tables.{is_media};

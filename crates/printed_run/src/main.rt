@@ -44,8 +44,8 @@ fn print<R: Print + Eprint>(rt: &R, line: &[u8]) -> bool {
     or_fail(rt, "standard output", rt.write_all(line)).is_some()
 }
 
-// ---- the script: `rt`, the script, `part` and `out` are lent from function to function, and in no struct, since each is lent another part
-// of them; slices, as `script_run` takes them, of which what is asked holds of `main`'s arrays; `held` says how much of `part` is filled
+// ---- the script: `rt`, the script, `part` and `out` are lent from function to function, and in no struct, which would be made anew for each
+// call; slices, as `script_run` takes them, of which what is asked holds of `main`'s arrays; `held` says how much of `part` is filled
 
 // One read, of as many bytes as it gives: none at the end of the script.
 fn read_script(rt: &impl Eprint, script: &mut impl Read, part: &mut [u8]) -> Option<usize>

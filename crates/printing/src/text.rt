@@ -3,8 +3,8 @@ ghost use Rattle.std.specs.Prelude.{◌≡◌, [], ◌∷◌, ◌+◌, ◌-◌, 
 ghost use Rattle.machine.specs.Text.{decimal};
 ghost use Rattle.printing.specs.Writing.{Adds, HasRoom};
 
-// What is written stands in the first bytes, so many as `filled` says. No invariant on the room: each function asks for the room that its
-// text takes.
+// What is written stands in the first bytes, so many as `filled` says. No invariant: each function asks for the room that its
+// text takes, and so for that of no text where it writes none.
 #[derive(Drop)]
 pub struct Text<'a> {
     bytes: &'a mut [u8],

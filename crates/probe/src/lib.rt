@@ -158,6 +158,8 @@ fn returned_count(answer: CountAnswer) -> ReturnedCount
     }
 }
 
+// One function for each operation: the exported names are C's.
+
 #[unsafe(no_mangle)]
 pub extern "C" fn probe_load(document: &[u8]) -> ReturnedSession
     ensures { load_in result ≡ load document.now }

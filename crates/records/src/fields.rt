@@ -6,7 +6,8 @@ ghost use Rattle.machine.specs.Records.{action_of};
 
 use machine::{ActionRecord, Actions, AnchorRecord, Anchors};
 
-// Two words for the library's `get` by the type of an entry; one word for both would take the 0 at each call.
+// Two names for the library's `get`, which is generic: one name by `Default` was tried, of which a clause has no value, so that each call
+// would hand the 0 over.
 
 pub fn byte_at(table: &[u8], at: usize) -> u8
     ensures { result ≡ get_or table.now at 0 }
@@ -65,7 +66,6 @@ pub fn action_at(actions: &Actions, l: usize, j: usize) -> ActionRecord
     }
 }
 
-// Anchor a.
 pub fn anchor_at(anchors: &Anchors, a: usize) -> AnchorRecord
     requires { a < 128 }
     ensures { result ≡ anchor_at anchors.now a }

@@ -27,8 +27,8 @@ pub fn body_length(kind: usize) -> usize
     usize::from(byte_at(&BODY_LENGTHS, kind))
 }
 
-#[tactic(auto, using(crate::proofs::NextStates::no_row, crate::proofs::NextStates::in_row))]
 // The action is a byte that was asked before; an enum of the five would be turned back into the column here.
+#[tactic(auto, using(crate::proofs::NextStates::no_row, crate::proofs::NextStates::in_row))]
 pub fn next_state(state: u8, action: u8) -> u8
     requires { (to_start ≤ action) × (action ≤ to_resume) }
     ensures { result ≡ next_state state action }

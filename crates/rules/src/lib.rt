@@ -1,5 +1,6 @@
 // Whether rules hold. A composite rule is decided by deciding its two earlier rules, each composite rule once. What is required is of the
-// rules alone: a sound document would ask more of callers.
+// rules alone: a sound document would ask more of callers; and the values of properties are lent alone, so that it is said of
+// every state that has them.
 #![tactic(auto)]
 
 ghost use Rattle.std.specs.Prelude.{◌≡◌, ◌<◌, pos, get_or, length};

@@ -12,7 +12,8 @@ ghost use Rattle.machine.specs.Broken.{tables_obey, clock_right, node_right, anc
 
 use machine::{Document, Nodes, State, terms};
 
-// Of each byte as a parent, whether one of its children is occurring, and whether one is paused.
+// Of each byte as a parent, whether one of its children is occurring, and whether one is paused. Two arrays and no array of pairs, since each
+// is the marks of one question (`Marked`).
 #[derive(Drop)]
 struct Marks {
     occurs: [bool; 256],
@@ -119,7 +120,7 @@ fn anchors_right(d: &Document, s: &State) -> bool
     right
 }
 
-// Of tables that obey (as the caller has found; a type for that would own a copy of the document).
+// Of tables that obey, as the caller has found (see `end_check`, which asks the same).
 #[tactic(auto, unfolding(machine::specs::Broken::states_right))]
 pub fn states_right(d: &Document, s: &State) -> bool
     requires { tables_obey d.now ≡ true }

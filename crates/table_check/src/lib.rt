@@ -77,8 +77,8 @@ fn link_at(links: &Links, i: usize) -> LinkRecord
     }
 }
 
-// ---- the entries of each table, whose columns are its own, laid out for C. In the loops no branch and no early end, so that many entries
-// are looked at at once; `all` over a range was tried in the like loop of `choices`, and its proof did not close.
+// ---- the entries of each table, whose columns are its own, laid out for C. No early end: each loop is the
+// `every` of the definition; `all` over a range was tried in the like loop of `choices`, and its proof did not close.
 
 #[tactic(auto, using(crate::proofs::Full::full_nodes, crate::proofs::Passed::passed), unfolding(base::specs::Loops::every, machine::specs::Broken::node_obeys))]
 fn nodes_obey(d: &Document) -> bool

@@ -3,3 +3,4 @@ pub mod Tests
 pub mod Loops
 pub mod Marks
 pub mod Bits
+pub mod Ranges

@@ -49,11 +49,11 @@ impl Written {
     }
 }
 
-// Line k of the log, of which so many are written.
+// Line k of the slice: where more lines than k are written, that of the log.
 #[tactic(auto, using(crate::proofs::LogLaws::line_in))]
-pub fn line_at(log: &[u8], lines: usize, k: usize) -> Line
-    requires { (k < lines) × (k < length log.now / 4) }
-    ensures { result ≡ get_or (lines_in log.now lines) k (line 0 0 0) }
+pub fn line_at(log: &[u8], k: usize) -> Line
+    requires { k < length log.now / 4 }
+    ensures { (lines : ℕ) → k < lines → result ≡ get_or (lines_in log.now lines) k (line 0 0 0) }
 {
     let p = 4 * k;
     Line {

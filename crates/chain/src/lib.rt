@@ -31,7 +31,8 @@ fn run_actions(d: &SoundDocument, w: &mut Work, log: &mut [u8], l: usize)
     }
 }
 
-// What a firing of link l does before its actions: it is logged and counted, unless the limit is used up. (An id below 64 fits a byte.)
+// What a firing of link l does before its actions: it is logged and counted, unless the limit is used up. (An id below 64 fits a byte;
+// `try_from` would give a Result, to be unwrapped by the same fact.)
 #[tactic(auto, using(crate::proofs::Begins::begins_below, crate::proofs::Begins::begins_full))]
 fn begin_firing(w: &mut Work, log: &mut [u8], limit: u8, l: usize)
     requires { l < 64 }
@@ -46,7 +47,8 @@ fn begin_firing(w: &mut Work, log: &mut [u8], limit: u8, l: usize)
     }
 }
 
-// Whether link l hears the line.
+// Whether link l hears the line. (The records of a link and of a line are two types, each with more fields: a type of these three would be
+// made only to be compared.)
 fn hears(links: &Links, l: usize, x: Line) -> bool
     requires { l < 64 }
     ensures { result
@@ -58,6 +60,7 @@ fn hears(links: &Links, l: usize, x: Line) -> bool
 }
 
 // Whether a link that hears a line fires: nothing stops the call, the path to its owner is chosen, and its guard holds now.
+#[tactic(auto, unfolding(crate::specs::Trying::may_fire, machine::specs::Owners::owner_chosen, machine::specs::Chain::goes_on))]
 fn may_fire(d: &SoundDocument, w: &Work, l: usize) -> bool
     requires { l < d.now.document.links.count }
     ensures { (bytes : List ℕ) → result ≡ may_fire d.now.document l (run w.now bytes) }
@@ -88,7 +91,7 @@ pub fn run_chain(d: &SoundDocument, w: &mut Work, log: &mut [u8])
         if !w.written.goes_on() || w.written.lines <= k {
             return;
         }
-        let x = line_at(&*log, w.written.lines, k);
+        let x = line_at(&*log, k);
         for l in 0..d.document.links.count {
             try_link(d, &mut *w, &mut *log, x, l);
         }

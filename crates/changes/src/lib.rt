@@ -24,11 +24,12 @@ pub fn transition_of(aborting: bool, old: u8, new: u8) -> u8
     }
 }
 
-// The occurrence count after a transition. A transition is 01's number: a type for the six would take fewer numbers, and so ask more of callers.
-pub fn count_after(change: u8, count: u32) -> u32
-    ensures { result ≡ counted change count }
+// The occurrence count after a transition. A transition is 01's number: a type for the six would take fewer numbers, and so ask more of
+// callers.
+pub fn count_after(transition: u8, count: u32) -> u32
+    ensures { result ≡ counted transition count }
 {
-    if change == terms::STOPS {
+    if transition == terms::STOPS {
         count.wrapping_add(1)
     } else {
         count
@@ -36,13 +37,27 @@ pub fn count_after(change: u8, count: u32) -> u32
 }
 
 // The clock after a transition, by its number, as above.
-pub fn clock_after(change: u8, clock: u16) -> u16
-    ensures { result ≡ clocked change clock }
+pub fn clock_after(transition: u8, clock: u16) -> u16
+    ensures { result ≡ clocked transition clock }
 {
-    if change <= terms::ABORTS { 0 } else { clock }
+    if transition <= terms::ABORTS {
+        0
+    } else {
+        clock
+    }
 }
 
-// Which anchors of a media move, as data, since a closure that is made here could not be handed out: those that begin at a clock, those awake that end at it, those awake.
+// A change of state of a node, or with it of the anchors of a media: the state that it goes to, and whether it aborts where that is
+// sleeping.
+#[derive(Clone, Copy)]
+pub struct Change {
+    pub node: usize,
+    pub state: u8,
+    pub aborting: bool,
+}
+
+// Which anchors of a media move, as data, since a closure that is made here could not be handed out: those that begin at a clock,
+// those awake that end at it, those awake.
 #[derive(Clone, Copy)]
 pub enum Moving {
     BeginningAt(u16),
@@ -63,20 +78,13 @@ impl Moving {
     }
 }
 
-// The transition of an anchor in a state to the new one; none if it is not one of media n that move.
-pub fn anchor_transition(
-    moving: Moving,
-    aborting: bool,
-    n: usize,
-    anchor: AnchorRecord,
-    state: u8,
-    new: u8,
-) -> u8
-    ensures { result ≡ (when anchor.media =? n && moves moving anchor.begin anchor.end state
-        then transition aborting state new else no_transition) }
+// The transition that a media's change brings an anchor in a state; none if it is not one of those of the media that move.
+pub fn anchor_transition(moving: Moving, change: Change, anchor: AnchorRecord, state: u8) -> u8
+    ensures { result ≡ (when anchor.media =? change.node && moves moving anchor.begin anchor.end state
+        then transition change.aborting state change.state else no_transition) }
 {
-    if usize::from(anchor.media) == n && moving.moves(anchor.begin, anchor.end, state) {
-        transition_of(aborting, state, new)
+    if usize::from(anchor.media) == change.node && moving.moves(anchor.begin, anchor.end, state) {
+        transition_of(change.aborting, state, change.state)
     } else {
         terms::NO_TRANSITION
     }

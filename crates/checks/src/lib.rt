@@ -1,22 +1,47 @@
 // The checks of one record, as entry `id` of its table: the rules of loading, which the check of a session shares.
-// What a rule looks up in the tables is handed over as numbers, so that loading, which searches for an earlier entry, and the check of a
-// session, which marks them, share one check.
+// Whether an earlier bind or port stands against the record is handed over: loading searches for one; the check of a session marks them,
+// since a search for each entry would be quadratic.
 #![tactic(auto)]
 
 ghost use Rattle.std.specs.Prelude.{◌≡◌, true, ◌&&◌, ◌||◌};
 ghost use Rattle.base.specs.Tests.{when◌then◌else◌, ◌=?◌, ◌<?◌};
 ghost use Rattle.base.specs.Loops.{some};
-ghost use Rattle.machine.specs.declared.Nodes.{Nodes};
-ghost use Rattle.machine.specs.declared.Document.{Document};
 ghost use Rattle.machine.specs.Terms.{context, media, no_id};
-ghost use Rattle.machine.specs.Tables.{type_of, duration_of, parent_of};
+ghost use Rattle.machine.specs.Tables.{type_of, duration_of, parent_of, given};
 ghost use Rattle.machine.specs.Records.{node_fields_right, node_fault, anchor_fault, property_fault, simple_rule_fault, composite_rule_fault, rule_fault, is_default, bind_fault, is_port, port_fault, transition_right, subject_given, link_fault, action_right, target_given, action_fault};
 ghost use Rattle.machine.specs.Answers.{check_number};
 
 use machine::{
-    ActionRecord, AnchorRecord, BindRecord, LinkRecord, NodeRecord, PortRecord, Refusal,
-    RuleRecord, terms,
+    ActionRecord, AnchorRecord, BindRecord, Document, LinkRecord, NodeRecord, Nodes, PortRecord,
+    Refusal, RuleRecord, Rules, terms,
 };
+use records::fields::{byte_at, number_at};
+
+// ---- what the tables say of an id that may not be given, by the names of the definitions
+
+fn type_of(nodes: &Nodes, n: u8) -> u8
+    ensures { result ≡ type_of nodes.now n }
+{
+    byte_at(&nodes.types, usize::from(n))
+}
+
+pub fn parent_of(nodes: &Nodes, n: u8) -> u8
+    ensures { result ≡ parent_of nodes.now n }
+{
+    byte_at(&nodes.parents, usize::from(n))
+}
+
+fn duration_of(nodes: &Nodes, n: u8) -> u16
+    ensures { result ≡ duration_of nodes.now n }
+{
+    number_at(&nodes.durations, usize::from(n))
+}
+
+fn given(nodes: &Nodes, node_type: u8, n: u8) -> bool
+    ensures { result ≡ given nodes.now node_type n }
+{
+    usize::from(n) < nodes.count && type_of(nodes, n) == node_type
+}
 
 // ---- node
 
@@ -43,11 +68,9 @@ fn node_fields_right(id: usize, r: NodeRecord) -> bool
         && place_right(id, r.node_type, r.parent)
 }
 
-// A node whose parent has this type.
 #[tactic(auto, using(base::specs::Tests::tests), unfolding(machine::specs::Records::node_fault, machine::specs::Records::parent_right))]
-pub fn check_node(id: usize, r: NodeRecord, parent_type: u8) -> Result<(), Refusal>
-    ensures { (nodes : Nodes) → type_of nodes r.parent ≡ parent_type
-        → check_number result ≡ node_fault nodes id r }
+pub fn check_node(nodes: &Nodes, id: usize, r: NodeRecord) -> Result<(), Refusal>
+    ensures { check_number result ≡ node_fault nodes.now id r }
 {
     if 64 <= id {
         return Err(Refusal::TableFull);
@@ -58,7 +81,7 @@ pub fn check_node(id: usize, r: NodeRecord, parent_type: u8) -> Result<(), Refus
     if id == 0 {
         return Ok(());
     }
-    if id <= usize::from(r.parent) || parent_type == terms::MEDIA {
+    if id <= usize::from(r.parent) || type_of(nodes, r.parent) == terms::MEDIA {
         return Err(Refusal::UnknownId);
     }
     Ok(())
@@ -66,20 +89,9 @@ pub fn check_node(id: usize, r: NodeRecord, parent_type: u8) -> Result<(), Refus
 
 // ---- anchor
 
-// An anchor among so many nodes, whose media has this type and duration.
 #[tactic(auto, using(base::specs::Tests::tests), unfolding(machine::specs::Records::anchor_fault))]
-pub fn check_anchor(
-    id: usize,
-    r: AnchorRecord,
-    nodes: usize,
-    media_type: u8,
-    duration: u16,
-) -> Result<(), Refusal>
-    ensures { (t : Nodes)
-        → t.count ≡ nodes
-        → type_of t r.media ≡ media_type
-        → duration_of t r.media ≡ duration
-        → check_number result ≡ anchor_fault t id r }
+pub fn check_anchor(nodes: &Nodes, id: usize, r: AnchorRecord) -> Result<(), Refusal>
+    ensures { check_number result ≡ anchor_fault nodes.now id r }
 {
     if 128 <= id {
         return Err(Refusal::TableFull);
@@ -87,9 +99,10 @@ pub fn check_anchor(
     if r.end <= r.begin {
         return Err(Refusal::FieldOutOfRange);
     }
-    if nodes <= usize::from(r.media) || media_type != terms::MEDIA {
+    if !given(nodes, terms::MEDIA, r.media) {
         return Err(Refusal::UnknownId);
     }
+    let duration = duration_of(nodes, r.media);
     if duration != 0 && duration < r.end {
         return Err(Refusal::Conflict);
     }
@@ -154,44 +167,27 @@ pub fn check_rule(properties: usize, id: usize, r: RuleRecord) -> Result<(), Ref
 // ---- bind
 
 // No rule, or one that is given.
-fn rule_given(rule: u8, rules: usize) -> bool
-    ensures { result ≡ rule =? no_id || rule <? rules }
+fn rule_given(rules: &Rules, rule: u8) -> bool
+    ensures { result ≡ rule =? no_id || rule <? rules.now.count }
 {
-    rule == terms::NO_ID || usize::from(rule) < rules
+    rule == terms::NO_ID || usize::from(rule) < rules.count
 }
 
-// A bind among so many nodes and rules, by the type of its switch, the parent of its child, and whether the switch has a default already.
 #[tactic(auto, using(base::specs::Tests::tests), unfolding(machine::specs::Records::bind_fault))]
-pub fn check_bind(
-    id: usize,
-    r: BindRecord,
-    nodes: usize,
-    rules: usize,
-    switch_type: u8,
-    child_parent: u8,
-    has_default: bool,
-) -> Result<(), Refusal>
-    ensures { (d : Document)
-        → d.nodes.count ≡ nodes
-        → d.rules.count ≡ rules
-        → type_of d.nodes r.switch ≡ switch_type
-        → parent_of d.nodes r.child ≡ child_parent
-        → some (is_default d.binds r.switch) id ≡ has_default
-        → check_number result ≡ bind_fault d id r }
+pub fn check_bind(d: &Document, id: usize, r: BindRecord, has_default: bool) -> Result<(), Refusal>
+    ensures { some (is_default d.now.binds r.switch) id ≡ has_default
+        → check_number result ≡ bind_fault d.now id r }
 {
     if 64 <= id {
         return Err(Refusal::TableFull);
     }
-    if nodes <= usize::from(r.switch) || switch_type != terms::SWITCH {
+    if !given(&d.nodes, terms::SWITCH, r.switch)
+        || d.nodes.count <= usize::from(r.child)
+        || !rule_given(&d.rules, r.rule)
+    {
         return Err(Refusal::UnknownId);
     }
-    if nodes <= usize::from(r.child) || !rule_given(r.rule, rules) {
-        return Err(Refusal::UnknownId);
-    }
-    if child_parent != r.switch {
-        return Err(Refusal::Conflict);
-    }
-    if r.rule == terms::NO_ID && has_default {
+    if parent_of(&d.nodes, r.child) != r.switch || (r.rule == terms::NO_ID && has_default) {
         return Err(Refusal::Conflict);
     }
     Ok(())
@@ -199,33 +195,23 @@ pub fn check_bind(
 
 // ---- port
 
-// A port among so many nodes, by the type of its context, the parent of its child, and whether the context has the same port already.
 #[tactic(auto, using(base::specs::Tests::tests), unfolding(machine::specs::Records::port_fault))]
 pub fn check_port(
+    d: &Document,
     id: usize,
     r: PortRecord,
-    nodes: usize,
-    context_type: u8,
-    child_parent: u8,
     has_same_port: bool,
 ) -> Result<(), Refusal>
-    ensures { (d : Document)
-        → d.nodes.count ≡ nodes
-        → type_of d.nodes r.context ≡ context_type
-        → parent_of d.nodes r.child ≡ child_parent
-        → some (is_port d.ports r) id ≡ has_same_port
-        → check_number result ≡ port_fault d id r }
+    ensures { some (is_port d.now.ports r) id ≡ has_same_port
+        → check_number result ≡ port_fault d.now id r }
 {
     if 64 <= id {
         return Err(Refusal::TableFull);
     }
-    if nodes <= usize::from(r.context) || context_type != terms::CONTEXT {
+    if !given(&d.nodes, terms::CONTEXT, r.context) || d.nodes.count <= usize::from(r.child) {
         return Err(Refusal::UnknownId);
     }
-    if nodes <= usize::from(r.child) {
-        return Err(Refusal::UnknownId);
-    }
-    if child_parent != r.context || has_same_port {
+    if parent_of(&d.nodes, r.child) != r.context || has_same_port {
         return Err(Refusal::Conflict);
     }
     Ok(())
@@ -245,41 +231,22 @@ fn transition_right(class: u8, transition: u8) -> bool
     }
 }
 
-// Whether there is an event of this class and id among so many nodes, anchors and properties; a key is any byte.
+// Whether there is an event of this class and id; a key is any byte.
 #[tactic(auto, using(base::specs::Tests::tests), unfolding(machine::specs::Records::subject_given))]
-pub fn subject_given(class: u8, id: u8, nodes: usize, anchors: usize, properties: usize) -> bool
-    ensures { (d : Document)
-        → d.nodes.count ≡ nodes
-        → d.anchors.count ≡ anchors
-        → d.properties ≡ properties
-        → result ≡ subject_given d class id }
+pub fn subject_given(d: &Document, class: u8, id: u8) -> bool
+    ensures { result ≡ subject_given d.now class id }
 {
     match class {
-        terms::OF_NODE => usize::from(id) < nodes,
-        terms::OF_ANCHOR => usize::from(id) < anchors,
-        terms::OF_PROPERTY => usize::from(id) < properties,
+        terms::OF_NODE => usize::from(id) < d.nodes.count,
+        terms::OF_ANCHOR => usize::from(id) < d.anchors.count,
+        terms::OF_PROPERTY => usize::from(id) < d.properties,
         _ => true,
     }
 }
 
-// A link whose owner has this type, among so many nodes, anchors, properties and rules.
 #[tactic(auto, using(base::specs::Tests::tests), unfolding(machine::specs::Records::link_fault))]
-pub fn check_link(
-    id: usize,
-    r: LinkRecord,
-    nodes: usize,
-    anchors: usize,
-    properties: usize,
-    rules: usize,
-    owner_type: u8,
-) -> Result<(), Refusal>
-    ensures { (d : Document)
-        → d.nodes.count ≡ nodes
-        → d.anchors.count ≡ anchors
-        → d.properties ≡ properties
-        → d.rules.count ≡ rules
-        → type_of d.nodes r.owner ≡ owner_type
-        → check_number result ≡ link_fault d id r }
+pub fn check_link(d: &Document, id: usize, r: LinkRecord) -> Result<(), Refusal>
+    ensures { check_number result ≡ link_fault d.now id r }
 {
     if 64 <= id {
         return Err(Refusal::TableFull);
@@ -287,13 +254,10 @@ pub fn check_link(
     if !transition_right(r.class, r.transition) {
         return Err(Refusal::FieldOutOfRange);
     }
-    if nodes <= usize::from(r.owner) || owner_type != terms::CONTEXT {
-        return Err(Refusal::UnknownId);
-    }
-    if !subject_given(r.class, r.subject, nodes, anchors, properties) {
-        return Err(Refusal::UnknownId);
-    }
-    if !rule_given(r.guard, rules) {
+    if !given(&d.nodes, terms::CONTEXT, r.owner)
+        || !subject_given(d, r.class, r.subject)
+        || !rule_given(&d.rules, r.guard)
+    {
         return Err(Refusal::UnknownId);
     }
     Ok(())
@@ -313,34 +277,23 @@ pub fn action_right(action: u8, value: i32) -> bool
     }
 }
 
-// Whether an action's target is given among so many nodes and properties.
+// Whether the target of an action, of a link or commanded, is given.
 #[tactic(auto, using(base::specs::Tests::tests), unfolding(machine::specs::Records::target_given))]
-pub fn target_given(action: u8, target: u8, nodes: usize, properties: usize) -> bool
-    ensures { (d : Document) → d.nodes.count ≡ nodes → d.properties ≡ properties
-        → result ≡ target_given d action target }
+pub fn target_given(d: &Document, action: u8, target: u8) -> bool
+    ensures { result ≡ target_given d.now action target }
 {
-    let given = if action == terms::TO_SET {
-        properties
+    let count = if action == terms::TO_SET {
+        d.properties
     } else {
-        nodes
+        d.nodes.count
     };
-    usize::from(target) < given
+    usize::from(target) < count
 }
 
-// Action `id` of a link, among so many links, nodes and properties.
+// Action `id` of a link.
 #[tactic(auto, using(base::specs::Tests::tests), unfolding(machine::specs::Records::action_fault))]
-pub fn check_action(
-    id: usize,
-    r: ActionRecord,
-    links: usize,
-    nodes: usize,
-    properties: usize,
-) -> Result<(), Refusal>
-    ensures { (d : Document)
-        → d.links.count ≡ links
-        → d.nodes.count ≡ nodes
-        → d.properties ≡ properties
-        → check_number result ≡ action_fault d id r }
+pub fn check_action(d: &Document, id: usize, r: ActionRecord) -> Result<(), Refusal>
+    ensures { check_number result ≡ action_fault d.now id r }
 {
     if 8 <= id {
         return Err(Refusal::TableFull);
@@ -348,7 +301,7 @@ pub fn check_action(
     if !action_right(r.action, r.value) {
         return Err(Refusal::FieldOutOfRange);
     }
-    if links == 0 || !target_given(r.action, r.target, nodes, properties) {
+    if d.links.count == 0 || !target_given(d, r.action, r.target) {
         return Err(Refusal::UnknownId);
     }
     Ok(())

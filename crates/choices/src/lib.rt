@@ -17,7 +17,8 @@ fn is_chosen(parent_type: u8, choice: usize, child: usize) -> bool
     (parent_type != terms::SWITCH) | (choice == child)
 }
 
-// Whether every switch above the owner chose the child on the path. Lent the choices alone, so that it is said of every state that has them. A walk by parents has no index to count: a `while`.
+// Whether every switch above the owner chose the child on the path. Lent the choices alone, so that it is said of every state that has them.
+// A walk by parents has no index to count: a `while`.
 #[tactic(auto, using(crate::proofs::PathLaws::path_ends), unfolding(machine::specs::Owners::path_chosen, machine::specs::Owners::is_chosen))]
 pub fn path_chosen(nodes: &Nodes, choices: &[u8; 64], owner: usize) -> bool
     requires { (owner < 64) × Earlier nodes.now.parents owner }
@@ -46,15 +47,11 @@ fn choice_right(nodes: &Nodes, n: usize, c: usize) -> bool
             && usize::from(nodes.parents[c]) == n)
 }
 
-// Of all places, those too that have no node. (`all` over the range was tried: its proof did not close.)
-#[tactic(auto, unfolding(machine::specs::Broken::choices_right, base::specs::Loops::every))]
+// Of all places, those too that have no node. Lent the choices alone, as above.
+#[tactic(auto, unfolding(machine::specs::Broken::choices_right))]
 pub fn choices_right(nodes: &Nodes, choices: &[u8; 64]) -> bool
     requires { nodes.now.count ≤ 64 }
     ensures { result ≡ choices_right nodes.now choices.now }
 {
-    let mut right = true;
-    for n in 0..64 {
-        right &= choice_right(nodes, n, usize::from(choices[n]));
-    }
-    right
+    (0..64).all(|n| choice_right(nodes, n, usize::from(choices[n])))
 }

@@ -7,7 +7,6 @@ use native.Mathlib.Nat.{sub-zero}
 use native.Mathlib.Omega.{arith}
 use borrow.Author.Tests.{eqb-true, eqb-false, lt-ltb, le-ltb}
 use lib.IntN.{ℤ}
-use Rattle.std.specs.Prelude.{Option}
 use lib.ListN.{length, length-set, get_or, set}
 use Rattle.base.specs.Tests.{when◌then◌else◌, by_test, ◌=?◌, ◌<?◌}
 use Rattle.base.specs.Loops.{first}
@@ -19,7 +18,8 @@ use Rattle.machine.specs.Sound.{Sound, SoundRules}
 use Rattle.machine.specs.declared.Rules.{Rules}
 use Rattle.machine.specs.declared.Binds.{Binds}
 use Rattle.machine.specs.declared.Document.{Document}
-use Rattle.rules.specs.Memo.{Known}
+use Rattle.rules.specs.declared.KnownRules.{KnownRules}
+use Rattle.rules.specs.Memo.{KnownIn}
 use Rattle.rules.proofs.Facts.{decided_right}
 use Rattle.machine.proofs.Effects.{get_d_set}
 use Rattle.choosing.specs.Choosing.{child_found, child_from, Chosen, no_child, FoundChildren, SoundBinds, BindDecided}
@@ -66,18 +66,17 @@ module _ (binds : Binds) (rules : Rules) (values : List ℤ) where
 
   -- bind b was decided: whether it is of a switch and holds, and what is known then
   module _ (sound : SoundRules 32 rules) (b : ℕ) (below : ((bind_at binds b).rule ≡ no_id → ⊥) → (bind_at binds b).rule < rules.count)
-      {known after : List (Option Bool)} {holds : Bool} (k : Known rules values rules.count known)
-      (decided : BindDecided rules known (bind_at binds b).rule holds after) where
-    pub bind_decided : ((n : ℕ) → bind_holds binds rules values n b ≡ ((bind_at binds b).switch =? n && holds)) × Known rules values rules.count after
+      {k after : KnownRules} {holds : Bool} (known : KnownIn k rules values) (decided : BindDecided k (bind_at binds b).rule holds after) where
+    pub bind_decided : ((n : ℕ) → bind_holds binds rules values n b ≡ ((bind_at binds b).switch =? n && holds)) × KnownIn after rules values
     unfolding bind_holds
     bind_decided =
         by_test ((bind_at binds b).rule =? no_id)
         (λ e.
         let none = decided.default (eqb-true _ _ e) in
-        (λ n. rw (none.0, e) (by_test ((bind_at binds b).switch =? n) (λ q. rw q) (λ q. rw q)), rw none.1 k))
+        (λ n. rw (none.0, e) (by_test ((bind_at binds b).switch =? n) (λ q. rw q) (λ q. rw q)), rw none.1 known))
         (λ e.
         let one = eqb-false _ _ e in
-        let right = decided_right sound k (below one) (decided.ruled one) in
+        let right = decided_right sound known (below one) (decided.ruled one) in
         (λ n. rw (right.0, e) (by_test ((bind_at binds b).switch =? n) (λ q. rw q) (λ q. rw q)), right.1))
 
   pub found_children : (xs : List ℕ) → Chosen binds (bind_holds binds rules values) (default_child binds) 0 xs → FoundChildren binds rules values xs

@@ -1,5 +1,5 @@
 -- The child that a switch finds.
-use Rattle.std.specs.Prelude.{ℕ, ◌-◌, ◌≤◌, ◌<◌, Bool, false, List, ◌≡◌, ℤ, length, get_or, Option}
+use Rattle.std.specs.Prelude.{ℕ, ◌-◌, ◌≤◌, ◌<◌, Bool, false, List, ◌≡◌, ℤ, length, get_or}
 use Rattle.base.specs.Tests.{when◌then◌else◌, ◌<?◌}
 use Rattle.base.specs.Loops.{first}
 use Rattle.machine.specs.Terms.{no_id}
@@ -7,7 +7,8 @@ use Rattle.machine.specs.Tables.{bind_at}
 use Rattle.machine.specs.Events.{found_bind}
 use Rattle.machine.specs.declared.Binds.{Binds}
 use Rattle.machine.specs.declared.Rules.{Rules}
-use Rattle.rules.specs.Memo.{Decided}
+use Rattle.rules.specs.declared.KnownRules.{KnownRules}
+use Rattle.rules.specs.Memo.{DecidedIn}
 
 -- the child of the bind that switch n finds; 0 where there is none, since node 0 is nobody's child
 unfoldable pub child_found : Binds → Rules → List ℤ → ℕ → ℕ
@@ -42,6 +43,6 @@ pub record SoundBinds (binds : Binds) (rules : Rules) : Type 0 where
   pub rule : (b : ℕ) → b < binds.count → ((bind_at binds b).rule ≡ no_id → ⊥) → (bind_at binds b).rule < rules.count
 
 -- the rule of a bind was decided, from what is known of the rules; the default has none
-pub record BindDecided (rules : Rules) (known : List (Option Bool)) (rule : ℕ) (holds : Bool) (after : List (Option Bool)) : Type 0 where
+pub record BindDecided (known : KnownRules) (rule : ℕ) (holds : Bool) (after : KnownRules) : Type 0 where
   pub default : rule ≡ no_id → (holds ≡ false) × (after ≡ known)
-  pub ruled : (rule ≡ no_id → ⊥) → Decided rules known rule holds after
+  pub ruled : (rule ≡ no_id → ⊥) → DecidedIn known rule holds after

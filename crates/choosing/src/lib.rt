@@ -7,11 +7,11 @@ ghost use Rattle.machine.specs.Terms.{no_id};
 ghost use Rattle.machine.specs.Tables.{bind_at};
 ghost use Rattle.machine.specs.Records.{is_default};
 ghost use Rattle.machine.specs.Sound.{SoundRules};
-ghost use Rattle.rules.specs.Memo.{Earlier};
+ghost use Rattle.rules.specs.Memo.{EarlierIn};
 ghost use Rattle.choosing.specs.Choosing.{SoundBinds, LowSwitches, BindDecided, Chosen, no_child, FoundChildren};
 
 use machine::{Binds, Rules, terms};
-use rules::{decide, simple_marks};
+use rules::KnownRules;
 
 // Bind b gives its switch its child, if it passes.
 fn choose(binds: &Binds, chosen: &mut [u8; 64], passes: bool, b: usize)
@@ -39,26 +39,27 @@ fn default_children(binds: &Binds) -> [u8; 64]
 }
 
 // Whether the rule of a bind holds, from what is known of the rules; the default has none.
-fn bind_rule_holds(rules: &Rules, known: &mut [Option<bool>; 32], rule: u8) -> bool
-    requires { (rule ≡ no_id → ⊥) → (rule < 32) × Earlier rules.now known.old rule }
-    ensures { BindDecided rules.now known.old rule result known.new }
+fn bind_rule_holds(known: &mut KnownRules, rule: u8) -> bool
+    requires { (rule ≡ no_id → ⊥) → (rule < 32) × EarlierIn known.old rule }
+    ensures { BindDecided known.old rule result known.new }
 {
     if rule == terms::NO_ID {
         return false;
     }
-    decide(rules, known, usize::from(rule))
+    known.decide(usize::from(rule))
 }
 
 // The child that each switch finds: that of its first bind whose rule holds, else that of its default; 0 where there is none.
-// What is known of the rules is shared by all binds. What is asked of rules is of their table alone, as in `rules`.
+// What is known of the rules is shared by all binds. As in `rules`, what is asked of rules is of their table alone, and the values of
+// properties are lent alone, so that what is promised is of every state that has them.
 pub fn found_children(binds: &Binds, rules: &Rules, values: &[i32; 32]) -> [u8; 64]
     requires { SoundBinds binds.now rules.now × SoundRules 32 rules.now }
     ensures { FoundChildren binds.now rules.now values.now result }
 {
     let mut chosen = default_children(binds);
-    let mut known = simple_marks(rules, values);
+    let mut known = KnownRules::new(rules, values);
     for b in (0..binds.count).rev() {
-        let passes = bind_rule_holds(rules, &mut known, binds.rules[b]);
+        let passes = bind_rule_holds(&mut known, binds.rules[b]);
         choose(binds, &mut chosen, passes, b);
     }
     chosen

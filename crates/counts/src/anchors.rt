@@ -1,7 +1,7 @@
-// The conditions on the anchors of a media. Loops and not `all` and `any`, of which the trials are told in `choices` and `document`.
+// The conditions on the anchors of a media.
 ghost use Rattle.std.specs.Prelude.{◌≡◌, ℕ, ◌<◌};
 ghost use Rattle.base.specs.Marks.{Numbered};
-ghost use Rattle.machine.specs.Counts.{is_anchor_of, is_count_link_of, has_anchor, apart, apart_from_earlier, disjoint, each_has_one_link};
+ghost use Rattle.machine.specs.Counts.{is_anchor_of, is_count_link_of, has_anchor, apart, apart_from_earlier, disjoint, has_one_link, each_has_one_link};
 
 use machine::Anchors;
 use machine::sound::SoundDocument;
@@ -15,16 +15,10 @@ pub fn is_anchor_of(d: &SoundDocument, m: u8, a: usize) -> bool
     a < anchors.count && anchors.media[a] == m
 }
 
-#[tactic(auto, using(base::specs::Loops::one_some), unfolding(base::specs::Loops::some, machine::specs::Counts::has_anchor))]
 pub fn has_anchor(d: &SoundDocument, m: u8) -> bool
     ensures { result ≡ has_anchor d.now.document.anchors m }
 {
-    for a in 0..d.document.anchors.count {
-        if is_anchor_of(d, m, a) {
-            return true;
-        }
-    }
-    false
+    (0..d.document.anchors.count).any(|a| is_anchor_of(d, m, a))
 }
 
 // One ends at or before the begin of the other.
@@ -36,7 +30,7 @@ fn is_apart(anchors: &Anchors, a: usize, b: usize) -> bool
     (anchors.ends[a] <= anchors.begins[b]) | (anchors.ends[b] <= anchors.begins[a])
 }
 
-#[tactic(auto, unfolding(base::specs::Loops::every, machine::specs::Counts::apart_from_earlier))]
+#[tactic(auto, unfolding(machine::specs::Counts::apart_from_earlier))]
 fn apart_from_earlier(d: &SoundDocument, m: u8, b: usize) -> bool
     requires { b < 128 }
     ensures { result ≡ apart_from_earlier d.now.document.anchors m b }
@@ -44,34 +38,31 @@ fn apart_from_earlier(d: &SoundDocument, m: u8, b: usize) -> bool
     if !is_anchor_of(d, m, b) {
         return true;
     }
-    let mut all_apart = true;
-    for a in 0..b {
-        all_apart &= !is_anchor_of(d, m, a) | is_apart(&d.document.anchors, a, b);
-    }
-    all_apart
+    (0..b).all(|a| !is_anchor_of(d, m, a) || is_apart(&d.document.anchors, a, b))
 }
 
-#[tactic(auto, unfolding(base::specs::Loops::every, machine::specs::Counts::disjoint))]
 pub fn disjoint(d: &SoundDocument, m: u8) -> bool
     ensures { result ≡ disjoint d.now.document.anchors m }
 {
-    let mut all_apart = true;
-    for b in 0..d.document.anchors.count {
-        all_apart &= apart_from_earlier(d, m, b);
-    }
-    all_apart
+    (0..d.document.anchors.count).all(|b| apart_from_earlier(d, m, b))
+}
+
+// Anchor a is not of media m, or has exactly one link that sets the property on its start; with the number of such links, for each anchor.
+#[tactic(auto, unfolding(machine::specs::Counts::has_one_link))]
+fn has_one_link(d: &SoundDocument, m: u8, linked: &[u8; 256], a: usize) -> bool
+    requires { a < 256 }
+    ensures { (p : ℕ)
+        → Numbered (is_count_link_of d.now.document p) d.now.document.links.count linked.now
+        → result ≡ has_one_link d.now.document m p a }
+{
+    !is_anchor_of(d, m, a) || linked[a] == 1
 }
 
 // With the number of links that set the property, for each anchor whose start they are on.
-#[tactic(auto, unfolding(base::specs::Loops::every, machine::specs::Counts::has_one_link, machine::specs::Counts::each_has_one_link))]
 pub fn each_has_one_link(d: &SoundDocument, m: u8, linked: &[u8; 256]) -> bool
     ensures { (p : ℕ)
         → Numbered (is_count_link_of d.now.document p) d.now.document.links.count linked.now
         → result ≡ each_has_one_link d.now.document m p }
 {
-    let mut each = true;
-    for a in 0..d.document.anchors.count {
-        each &= !is_anchor_of(d, m, a) | (linked[a] == 1);
-    }
-    each
+    (0..d.document.anchors.count).all(|a| has_one_link(d, m, linked, a))
 }

@@ -15,6 +15,8 @@ use machine::{
 use records::reading::cut_at;
 use records::tables::body_length;
 
+// Every zero is written out, here and in `new_state`: a derived `Default` reaches these arrays too, but promises of a column only that each
+// entry is zero, so that each column would take a line of proof; and 01 wants the anchors' states and counts as repeat arrays.
 #[tactic(auto, unfolding(machine::specs::Tables::empty_document))]
 fn empty_document() -> Document
     ensures { result ≡ empty_document }

@@ -90,7 +90,8 @@ fn link_ends_zero(links: &Links) -> bool
         & zero_from(&links.action_counts, end, 0)
 }
 
-// ---- the actions of the links, in 8 places for each: no loop over the targets and values looks at the links, so that many places are looked at at once
+// ---- the actions of the links, in 8 places for each: no loop over the targets and values looks at the links, so that many places are looked
+// at at once
 
 // No action stands in the places of a link past so many.
 #[tactic(auto, unfolding(crate::specs::Places::unused_zero, base::specs::Loops::every))]

@@ -60,7 +60,7 @@ fn check_arguments(d: &Document, c: Call) -> Result<(), Refusal>
             if !action_right(a.action, a.value) {
                 return Err(Refusal::BadArgument);
             }
-            if !target_given(a.action, a.target, d.nodes.count, d.properties) {
+            if !target_given(d, a.action, a.target) {
                 return Err(Refusal::NoSuchId);
             }
             Ok(())

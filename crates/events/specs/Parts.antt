@@ -1,7 +1,7 @@
--- What the contracts of inner functions name beside the definitions of `machine`.
-use Rattle.std.specs.Prelude.{Bool, not, ◌&&◌, ℕ}
+-- What the contracts of this crate name beside the definitions of `machine`.
+use Rattle.std.specs.Prelude.{Bool, not, ◌&&◌, ℕ, Option, Some, None}
 use Rattle.base.specs.Tests.{when◌then◌else◌, ◌=?◌}
-use Rattle.machine.specs.Terms.{media, sleeping, occurring, paused}
+use Rattle.machine.specs.Terms.{media, sleeping, occurring, paused, no_action}
 use Rattle.machine.specs.Events.{awake}
 
 -- a node of this type and state takes the state that its children give it: it is a composite, and in another one
@@ -15,3 +15,12 @@ with_child state child =
     else when awake state then state
     else when child =? paused then paused
     else sleeping
+
+-- the action that settling goes by: that of its cause, or none, as in a tick; and its target, 0 where there is none
+abbrev pub action_of : Option (ℕ × ℕ) → ℕ
+action_of (Some cause) = cause.0
+action_of None = no_action
+
+abbrev pub target_of : Option (ℕ × ℕ) → ℕ
+target_of (Some cause) = cause.1
+target_of None = 0

@@ -44,5 +44,6 @@ pub fn act(d: &SoundDocument, w: &mut Work, log: &mut [u8], a: ActionRecord)
     ensures { run w.new log.new ≡ acted d.now.document a (run w.old log.old) }
 {
     perform(d, w, log, a);
-    settle(&d.document.nodes, w, log, a.action, usize::from(a.target));
+    let cause = Some((a.action, usize::from(a.target)));
+    settle(&d.document.nodes, w, log, cause);
 }

@@ -7,7 +7,7 @@ use super::Work;
 use changes::count_after;
 use machine::terms;
 
-// Property p takes the value. (An id below 32 fits a byte.)
+// Property p takes the value. (An id below 32 fits a byte; `try_from` would give a Result, to be unwrapped by the same fact.)
 #[tactic(auto, unfolding(machine::specs::Events::set_property))]
 pub fn set_property(w: &mut Work, log: &mut [u8], p: usize, value: i32)
     requires { p < 32 }

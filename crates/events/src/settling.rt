@@ -4,20 +4,24 @@ ghost use Rattle.std.specs.Prelude.{◌≡◌, ◌<◌};
 ghost use Rattle.machine.specs.Events.{aborts_at, settled};
 ghost use Rattle.machine.specs.Sound.{SoundNodes};
 ghost use Rattle.events.specs.Running.{run};
-ghost use Rattle.events.specs.Parts.{resettled, with_child};
+ghost use Rattle.events.specs.Parts.{resettled, with_child, action_of, target_of};
 
 use super::Work;
 use super::media::is_below;
+use changes::Change;
 use machine::{Nodes, terms};
 use transitions::node::node_to;
 
 // Whether composite c logs aborts where it goes to sleep.
 #[tactic(auto, unfolding(machine::specs::Events::aborts_at))]
-fn aborts_at(nodes: &Nodes, action: u8, target: usize, c: usize) -> bool
+fn aborts_at(nodes: &Nodes, cause: Option<(u8, usize)>, c: usize) -> bool
     requires { SoundNodes nodes.now × (c < nodes.now.count) }
-    ensures { result ≡ aborts_at nodes.now action target c }
+    ensures { result ≡ aborts_at nodes.now (action_of cause) (target_of cause) c }
 {
-    action == terms::TO_ABORT && is_below(nodes, target, c)
+    match cause {
+        Some((terms::TO_ABORT, target)) => is_below(nodes, target, c),
+        _ => false,
+    }
 }
 
 // Whether a node of this type and state takes the state that its children give it.
@@ -41,25 +45,24 @@ fn with_child(state: u8, child: u8) -> u8
     }
 }
 
-// Composites by descending id. A child has a later id than its parent: where a composite is come to, the states of all its children are gathered.
+// Composites by descending id. A child has a later id than its parent: where a composite is come to, the states of all its children are
+// gathered. The cause is the action that settling follows, with its target; a tick's settling has none. (An action's record has its target as
+// a byte, and so would ask more of callers.)
 #[tactic(auto, using(crate::proofs::Gathering::gathered_none, base::specs::Loops::descending_done), unfolding(machine::specs::Events::settled))]
-pub fn settle(nodes: &Nodes, w: &mut Work, log: &mut [u8], action: u8, target: usize)
+pub fn settle(nodes: &Nodes, w: &mut Work, log: &mut [u8], cause: Option<(u8, usize)>)
     requires { SoundNodes nodes.now }
-    ensures { run w.new log.new ≡ settled nodes.now action target (run w.old log.old) }
+    ensures { run w.new log.new ≡ settled nodes.now (action_of cause) (target_of cause) (run w.old log.old) }
 {
     // A place for every byte, so that the parent of node 0, which is none, needs no branch.
     let mut gathered = [terms::SLEEPING; 256];
     for n in (0..nodes.count).rev() {
         if resettles(nodes.types[n], w.state.nodes.states[n], gathered[n]) {
-            let aborting = aborts_at(nodes, action, target, n);
-            node_to(
-                &mut w.state.nodes,
-                log,
-                &mut w.written,
-                aborting,
-                n,
-                gathered[n],
-            );
+            let change = Change {
+                node: n,
+                state: gathered[n],
+                aborting: aborts_at(nodes, cause, n),
+            };
+            node_to(&mut w.state.nodes, log, &mut w.written, change);
         }
         let parent = usize::from(nodes.parents[n]);
         gathered[parent] = with_child(gathered[parent], w.state.nodes.states[n]);

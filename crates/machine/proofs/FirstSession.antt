@@ -10,7 +10,7 @@ use borrow.Author.Tests.{leb-false}
 use Rattle.base.specs.Tests.{when◌then◌else◌}
 use Rattle.base.specs.Loops.{some, some_one}
 use Rattle.base.specs.Marks.{zero_at}
-use Rattle.machine.specs.Tables.{empty_document, new_state, empty_session, with_values}
+use Rattle.machine.specs.Tables.{empty_document, new_state, empty_session, with_values, action_count, action_at}
 use Rattle.machine.specs.Records.{entered}
 use Rattle.machine.specs.Load.{OrFault, records_entered, place_fault, LoadResult, finished, load}
 use Rattle.machine.specs.Events.{node_state, node_clock, node_count, anchor_state, anchor_count, property_count, child_in, children_state}
@@ -21,7 +21,7 @@ use Rattle.machine.specs.declared.State.{State}
 use Rattle.machine.specs.declared.Session.{Session}
 use Rattle.machine.specs.declared.Record.{Record}
 use Rattle.machine.specs.declared.Record.TheVariants.{Head, Node, Anchor, Property, Rule, Bind, Port, Link, Action}
-use Rattle.machine.proofs.SoundTables.{node_passes, anchor_passes, property_passes, rule_passes, bind_passes, port_passes, link_passes, action_passes}
+use Rattle.machine.proofs.SoundTables.{node_passes, anchor_passes, property_passes, rule_passes, bind_passes, port_passes, link_passes, action_passes, ActionPasses}
 use Rattle.machine.proofs.Tally.{one_if_awake, Tallied}
 use Rattle.machine.proofs.Shape.{Shaped}
 use Rattle.machine.proofs.Whole.{Right}
@@ -83,9 +83,13 @@ zeros {places = places} = record { len = length-replicate places _; ends = λ i 
 zero_slots : {A : Type 0} {z : A} → Slots z (replicate 64 0) (replicate 512 z)
 zero_slots = record { len = refl; ends = λ k j b h. zero_at 512 (8 * k + j) }
 
+-- a document without a link has no action
+no_action_lem : (l j : ℕ) → l < 0 → j < action_count empty_document.links l → ActionPasses empty_document j (action_at empty_document.actions l j)
+no_action_lem l j h = absurd (omega arith)
+
 empty_entered : Entering empty_session
 unfolding empty_session empty_document new_state
-empty_entered = record { document = record { columns = search (zeros, zero_slots); entries = grind arith }; state = refl; values = zeros }
+empty_entered = record { document = record { columns = search (zeros, zero_slots); entries = grind (arith, no_action_lem) }; state = refl; values = zeros }
 
 -- ---- a state in which nothing is awake and nothing is counted
 

@@ -7,8 +7,6 @@ use Rattle.machine.specs.declared.Refusal.TheVariants.{CutRecord, UnknownKind, M
 use Rattle.machine.specs.declared.Reading.{Reading}
 use Rattle.machine.specs.declared.Condition.{Condition}
 use Rattle.machine.specs.declared.Condition.TheVariants.{HasAnchor, AnchorsDisjoint, EachHasOneLink, EachSetsOnce, EachUnguarded, NoOtherAction, EachOutsideSwitches}
-use Rattle.machine.specs.declared.CountsAnswer.{CountsAnswer}
-use Rattle.machine.specs.declared.CountAnswer.{CountAnswer}
 
 -- an answer as 01 gives it: the number of its refusal, 0 if it is accepted, and the values of an accepted one
 pub record Answer : Type 0 where
@@ -92,13 +90,13 @@ condition_numbered NoOtherAction = refl
 condition_numbered EachOutsideSwitches = refl
 
 -- "the first condition that fails, or that the document shows the counts": the condition's number, or 0
-abbrev pub counts_answer : CountsAnswer → Answer
-counts_answer CountsAnswer.Shown = accepted (pos 0 ∷ [])
-counts_answer (CountsAnswer.Fails c) = accepted (pos (condition_number c) ∷ [])
-counts_answer (CountsAnswer.Refused r) = refused (number_of r)
+abbrev pub counts_answer : Result (Result ⊤ Condition) Refusal → Answer
+counts_answer (Ok (Ok _)) = accepted (pos 0 ∷ [])
+counts_answer (Ok (Err c)) = accepted (pos (condition_number c) ∷ [])
+counts_answer (Err r) = refused (number_of r)
 
 -- the same, and the count or 0
-abbrev pub count_answer : CountAnswer → Answer
-count_answer (CountAnswer.Count count) = accepted (pos 0 ∷ count ∷ [])
-count_answer (CountAnswer.Fails c) = accepted (pos (condition_number c) ∷ pos 0 ∷ [])
-count_answer (CountAnswer.Refused r) = refused (number_of r)
+abbrev pub count_answer : Result (Result ℤ Condition) Refusal → Answer
+count_answer (Ok (Ok count)) = accepted (pos 0 ∷ count ∷ [])
+count_answer (Ok (Err c)) = accepted (pos (condition_number c) ∷ pos 0 ∷ [])
+count_answer (Err r) = refused (number_of r)

@@ -11,7 +11,7 @@ ghost use Rattle.std.specs.Prelude.{◌≡◌};
 ghost use Rattle.machine.specs.Answers.{number_of, condition_number};
 
 // ---- the tables of a document: entry i of each array belongs to id i. No count has an invariant, since anybody may write one; who needs a
-// bound asks for it.
+// bound asks for it. Ids are numbers: a type of those below a count would have to lend the document whose count it is to each id.
 
 // Types: 0 context, 1 media, 2 switch.
 #[repr(C)]
@@ -329,19 +329,8 @@ impl From<Condition> for u8 {
     }
 }
 
-// Whether a document shows the counts, or the first condition that fails. Three outcomes, here and below, and no Result: a condition that
-// fails is an accepted answer.
-#[derive(Clone, Copy)]
-pub enum CountsAnswer {
-    Shown,
-    Fails(Condition),
-    Refused(Refusal),
-}
+// Whether a document shows the counts, or the first condition that fails. A condition that fails is an accepted answer: one Result in another.
+pub type CountsAnswer = Result<Result<(), Condition>, Refusal>;
 
 // The count of an anchor whose media's counts a document shows, or the first condition that fails.
-#[derive(Clone, Copy)]
-pub enum CountAnswer {
-    Count(i32),
-    Fails(Condition),
-    Refused(Refusal),
-}
+pub type CountAnswer = Result<Result<i32, Condition>, Refusal>;

@@ -28,9 +28,6 @@ pub const TO_RESUME: u8 = 5;
 
 pub const TO_SET: u8 = 6;
 
-// What stands for an action where there is none: settling compares an action with one of these, a tick's with none.
-pub const NO_ACTION: u8 = 0;
-
 // Transitions; NO_TRANSITION is none, and also that of a fired line.
 pub const NO_TRANSITION: u8 = 0;
 

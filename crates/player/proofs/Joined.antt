@@ -21,8 +21,6 @@ use Rattle.machine.specs.Counts.{value_of, CountsShown}
 use Rattle.machine.specs.declared.Session.{Session}
 use Rattle.machine.specs.declared.Call.{Call}
 use Rattle.machine.specs.declared.Reading.{Reading}
-use Rattle.machine.specs.declared.CountsAnswer.TheVariants.{Shown}
-use Rattle.machine.specs.declared.CountAnswer.TheVariants.{Count}
 use Rattle.engine.specs.Promises.{call_result}
 use Rattle.player.proofs.load.Kinds as load-kinds
 use Rattle.player.proofs.load.Reads as load-reads
@@ -124,7 +122,7 @@ pub record CheckedCounts (s : Session) (m p : ℕ) : Type 0 where
   pub session : checking.handed.0 ≡ s
   pub media : checking.handed.1.0 ≡ m
   pub property : checking.handed.1.1.0 ≡ p
-  pub shown : checking.returned ≡ Shown
+  pub shown : checking.returned ≡ Ok (Ok tt)
 
 -- of the session the operation count_of returned this count of anchor a in property p
 pub record CountGiven (s : Session) (a p : ℕ) (count : ℤ) : Type 0 where
@@ -132,7 +130,7 @@ pub record CountGiven (s : Session) (a p : ℕ) (count : ℤ) : Type 0 where
   pub session : giving.handed.0 ≡ s
   pub anchor : giving.handed.1.0 ≡ a
   pub property : giving.handed.1.1.0 ≡ p
-  pub gave : giving.returned ≡ Count count
+  pub gave : giving.returned ≡ Ok (Ok count)
 
 -- of the session the operation read returned this of property p
 pub record PropertyRead (s : Session) (p : ℕ) (reading : Reading) : Type 0 where

@@ -24,8 +24,6 @@ use Rattle.machine.specs.declared.State.{State}
 use Rattle.machine.specs.declared.Session.{Session}
 use Rattle.machine.specs.declared.Call.{Call}
 use Rattle.machine.specs.declared.Reading.{Reading}
-use Rattle.machine.specs.declared.CountsAnswer.TheVariants.{Shown}
-use Rattle.machine.specs.declared.CountAnswer.TheVariants.{Count}
 use Rattle.document.specs.Loading.{load_result}
 use Rattle.player.proofs.Joined.{Made, by_call, by_command, by_key, by_tick, session_of, call_of, bytes_of, result_of, results_of_made, session_after_made, MadeFrom, LoadedDocument, session_loaded, ForEveryListMade, NeverSetsMade, CheckedCounts, CountGiven, PropertyRead, CountsForEveryListMade}
 
@@ -99,7 +97,7 @@ count_value : (count : ℤ) → value_in (with_count 0 count) ≡ count
 unfolding with_count value_in when◌then◌else◌
 count_value count = refl
 
-given_count : (s : Session) (a p : ℕ) (count : ℤ) → failing s.document (anchor_at s.document.anchors a).media p ≡ 0 → give_count s a p ≡ count_answer (Count count)
+given_count : (s : Session) (a p : ℕ) (count : ℤ) → failing s.document (anchor_at s.document.anchors a).media p ≡ 0 → give_count s a p ≡ count_answer (Ok (Ok count))
     → (a < s.document.anchors.count) × (count_of s.document p a ≡ count)
 unfolding give_count value_in
 given_count s a p count none =
@@ -108,13 +106,13 @@ given_count s a p count none =
     (λ g. rw none (λ e. (ltb-true a s.document.anchors.count (both_pass (a <? s.document.anchors.count) _ (not_false _ g)).0, sym (count_value _) ∙ ap value_in e))))
   where
     Gives : Answer → Type 0
-    Gives r = r ≡ count_answer (Count count) → (a < s.document.anchors.count) × (count_of s.document p a ≡ count)
+    Gives r = r ≡ count_answer (Ok (Ok count)) → (a < s.document.anchors.count) × (count_of s.document p a ≡ count)
 
 -- what the three operations promise of the arguments that they were handed
-checked : (s : Session) (m p : ℕ) → CheckedCounts s m p → check_counts s m p ≡ counts_answer Shown
+checked : (s : Session) (m p : ℕ) → CheckedCounts s m p → check_counts s m p ≡ counts_answer (Ok (Ok tt))
 checked s m p c = sym (rw (c.session, c.media, c.property) at c.checking.promised) ∙ ap counts_answer c.shown
 
-given : (s : Session) (a p : ℕ) (count : ℤ) → CountGiven s a p count → give_count s a p ≡ count_answer (Count count)
+given : (s : Session) (a p : ℕ) (count : ℤ) → CountGiven s a p count → give_count s a p ≡ count_answer (Ok (Ok count))
 given s a p count c = sym (rw (c.session, c.anchor, c.property) at c.giving.promised) ∙ ap count_answer c.gave
 
 was_read : (s : Session) (p : ℕ) (reading : Reading) → PropertyRead s p reading → read s of_property p ≡ read_answer (Ok reading)

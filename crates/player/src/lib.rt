@@ -17,7 +17,8 @@ use machine::{
     ActionRecord, Call, Called, CountAnswer, CountsAnswer, Loaded, Reading, Refusal, Session,
 };
 
-// The session, if it is not broken.
+// The session, if it is not broken. A function and no `TryFrom`, which could not stand here: both types are of `machine`, and the check that
+// it takes is of a crate above.
 fn unbroken(s: &Session) -> Result<UnbrokenSession, Refusal>
     ensures given { IfOk result (λ session. (broken s.now ≡ false) × (session_of session ≡ s.now)) }
     ensures refused { IfErr result (λ refusal. (broken s.now ≡ true) × (refusal ≡ Refusal.BrokenSession)) }
@@ -52,6 +53,8 @@ pub fn call(s: Session, c: Call, log: &mut [u8]) -> Called
         },
     }
 }
+
+// 01's three calls by its names, each one kind of `call`.
 
 pub fn command(s: Session, action: u8, target: u8, value: i32, log: &mut [u8]) -> Called
     ensures { call_result result log.new
@@ -91,18 +94,12 @@ pub fn read(s: Session, class: u8, id: u8) -> Result<Reading, Refusal>
 pub fn check_counts(s: Session, media: u8, property: u8) -> CountsAnswer
     ensures { counts_answer result ≡ check_counts s media property }
 {
-    match unbroken(&s) {
-        Ok(session) => questions::check_counts(&session, media, property),
-        Err(refusal) => CountsAnswer::Refused(refusal),
-    }
+    questions::check_counts(&unbroken(&s)?, media, property)
 }
 
 #[tactic(auto, using(base::specs::Tests::when_tells), unfolding(machine::specs::Counts::give_count))]
 pub fn count_of(s: Session, anchor: u8, property: u8) -> CountAnswer
     ensures { count_answer result ≡ give_count s anchor property }
 {
-    match unbroken(&s) {
-        Ok(session) => questions::count_of(&session, anchor, property),
-        Err(refusal) => CountAnswer::Refused(refusal),
-    }
+    questions::count_of(&unbroken(&s)?, anchor, property)
 }

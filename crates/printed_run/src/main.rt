@@ -3,15 +3,16 @@
 // What is printed is made by the libraries `script_run` and `printing`. Here files are read, and lines go to standard output.
 #![tactic(auto)]
 
-ghost use Rattle.std.specs.Prelude.{◌≡◌, List, ℕ, ◌≤◌, length, take, None, Ok, IfSome, IfOk};
+ghost use Rattle.std.specs.Prelude.{false, ◌≡◌, List, ℕ, ◌≤◌, length, take, None, Ok, IfSome, IfOk};
 ghost use Rattle.std.proofs.Math.Seq.{slice};
+ghost use Rattle.machine.specs.Broken.{broken};
 ghost use Rattle.machine.specs.Sessions.{session_of};
-ghost use Rattle.printing.specs.Lines.{line_room};
 ghost use Rattle.printing.specs.Script.{script_record};
 ghost use Rattle.printing.specs.Writing.{Front};
 ghost use Rattle.printed_run.specs.Held.{HeldNext, Reached};
 
 use document_front::DECIDING_BYTES;
+use machine::Loaded;
 use machine::sound::UnbrokenSession;
 use printing::script::ScriptRecord;
 use printing::text::Text;
@@ -24,6 +25,13 @@ use std::rt::Files;
 // A proved loop has to end, and nothing says that a file does: the loop has a number of turns that no run uses up. In so many the number
 // of a call does not become too large.
 const TURNS: u64 = 1_000_000_000_000_000;
+
+// In bytes: what is held of the script at a time, the log of a call, and the lines of one part.
+const PART_BYTES: usize = 4096;
+
+const LOG_BYTES: usize = 65536;
+
+const OUT_BYTES: usize = 262144;
 
 // The value; where there is none, standard error says what could not be read or written, and why. Where that cannot be written either,
 // nothing can be said.
@@ -45,7 +53,8 @@ fn print<R: Print + Eprint>(rt: &R, line: &[u8]) -> bool {
 }
 
 // ---- the script: `rt`, the script, `part` and `out` are lent from function to function, and in no struct, which would be made anew for each
-// call; slices, as `script_run` takes them, of which what is asked holds of `main`'s arrays; `held` says how much of `part` is filled
+// call; `held` says how much of `part` is filled. That these bytes are a cut record is asked three times, and by `script_run::finish`: it is
+// a fact of what `part` holds at that moment. A type that says it would lend `part` away, which is read into next.
 
 // One read, of as many bytes as it gives: none at the end of the script.
 fn read_script(rt: &impl Eprint, script: &mut impl Read, part: &mut [u8]) -> Option<usize>
@@ -55,8 +64,8 @@ fn read_script(rt: &impl Eprint, script: &mut impl Read, part: &mut [u8]) -> Opt
 }
 
 // The end of a script, of which these bytes are left.
-fn end_script<R: Print + Eprint>(rt: &R, left: &[u8], out: &mut [u8])
-    requires { (script_record left.now ≡ ScriptRecord.Cut) × (7 ≤ length out.old) }
+fn end_script<R: Print + Eprint>(rt: &R, left: &[u8], out: &mut [u8; OUT_BYTES])
+    requires { script_record left.now ≡ ScriptRecord.Cut }
 {
     let filled = script_run::finish(left, &mut *out);
     print(rt, &out[..filled]);
@@ -67,12 +76,11 @@ fn end_script<R: Print + Eprint>(rt: &R, left: &[u8], out: &mut [u8])
 fn read_on<R: Print + Eprint>(
     rt: &R,
     script: &mut impl Read,
-    part: &mut [u8],
+    part: &mut [u8; PART_BYTES],
     held: usize,
-    out: &mut [u8],
+    out: &mut [u8; OUT_BYTES],
 ) -> Option<usize>
-    requires { (held ≤ length part.old) × (script_record (take held part.old) ≡ ScriptRecord.Cut)
-        × (7 ≤ length out.old) }
+    requires { (held ≤ length part.old) × (script_record (take held part.old) ≡ ScriptRecord.Cut) }
     ensures { HeldNext (take held part.old) part.new result }
 {
     let n = read_script(rt, script, &mut part[held..])?;
@@ -88,12 +96,12 @@ fn read_on<R: Print + Eprint>(
 fn go_on<R: Print + Eprint>(
     rt: &R,
     script: &mut impl Read,
-    part: &mut [u8],
+    part: &mut [u8; PART_BYTES],
     held: usize,
     ran: Part,
-    out: &mut [u8],
+    out: &mut [u8; OUT_BYTES],
 ) -> Option<usize>
-    requires { (ran.used ≤ held) × (held ≤ length part.old) × Front ran.filled out.old × (7 ≤ length out.old)
+    requires { (ran.used ≤ held) × (held ≤ length part.old) × Front ran.filled out.old
         × (ran.stop ≡ Stop.Cut → script_record (slice ran.used held part.old) ≡ ScriptRecord.Cut) }
     ensures held { HeldNext (slice ran.used held part.old) part.new result }
     ensures ended { ran.stop ≡ Stop.Ended → result ≡ None }
@@ -115,13 +123,11 @@ fn run_script<R: Print + Eprint>(
     rt: &R,
     session: &mut UnbrokenSession,
     script: &mut impl Read,
-    part: &mut [u8],
+    part: &mut [u8; PART_BYTES],
     first: usize,
-    log: &mut [u8],
-    out: &mut [u8],
+    log: &mut [u8; LOG_BYTES],
+    out: &mut [u8; OUT_BYTES],
 ) -> Part
-    requires { (length part.old ≡ 4_096) × (length log.old ≡ 65_536)
-        × (line_room 65_536 ≤ length out.old) }
     ensures { (result.stop ≡ Stop.Ended → ⊥) → (left : List ℕ) × Reached (session_of session.old) (session_of session.new) result left }
 {
     let mut held = first.min(part.len());
@@ -180,18 +186,15 @@ fn read_document<R: Files + Eprint>(rt: &R, document: &mut [u8]) -> Option<usize
 
 fn run_document<R: Print + Eprint>(
     rt: &R,
-    document: &[u8; DECIDING_BYTES],
-    filled: usize,
+    loaded: Loaded,
     script: &mut impl Read,
-    part: &mut [u8],
+    part: &mut [u8; PART_BYTES],
     first: usize,
-    log: &mut [u8],
-    out: &mut [u8],
+    log: &mut [u8; LOG_BYTES],
+    out: &mut [u8; OUT_BYTES],
 )
-    requires { (filled ≤ length document.now) × (length part.old ≡ 4_096) × (length log.old ≡ 65_536)
-        × (line_room 65_536 ≤ length out.old) }
+    requires { loaded.answer ≡ Ok tt → broken loaded.session ≡ false }
 {
-    let loaded = document_front::load_front(document, filled);
     match loaded.answer {
         Ok(()) => {
             let mut session = UnbrokenSession::new(loaded.session);
@@ -215,16 +218,16 @@ fn main(rt: HostRuntime) {
     let Some(mut script) = or_fail(&rt, "script", File::open(&rt, "script")) else {
         return;
     };
-    let mut part = [0u8; 4096];
+    let mut part = [0u8; PART_BYTES];
     let Some(first) = read_script(&rt, &mut script, &mut part) else {
         return;
     };
-    let mut log = [0u8; 65536];
-    let mut out = [0u8; 262144];
+    let mut log = [0u8; LOG_BYTES];
+    let mut out = [0u8; OUT_BYTES];
+    let loaded = document_front::load_front(&document, filled);
     run_document(
         &rt,
-        &document,
-        filled,
+        loaded,
         &mut script,
         &mut part,
         first,

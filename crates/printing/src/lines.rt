@@ -65,7 +65,7 @@ fn put_accepted(text: &mut Text, firings: u8, log: &[u8])
 {
     let lines = lines_of(log);
     text.put_text(b" ok");
-    // (a length fits 64 bits)
+    // (a length fits 64 bits; `try_from` would give a Result that cannot fail here, to be unwrapped by the same fact)
     text.put_number(b' ', lines.len() as u64);
     text.put_number(b' ', u64::from(firings));
     put_lines(text, lines);

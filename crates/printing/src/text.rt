@@ -74,7 +74,7 @@ impl<'a> Text<'a> {
     }
 }
 
-// (A number below 10 fits a byte.)
+// A number below 10 fits a byte, and is cast: `try_from` would give a Result that cannot fail here, to be unwrapped by the same fact.
 fn digit(n: u64) -> u8
     requires { n < 10 }
     ensures { result ≡ 48 + n }

@@ -78,83 +78,93 @@ fn returned(answer: Result<u8, Refusal>, session: Session) -> ReturnedSession
     }
 }
 
-fn returned_load(loaded: Loaded) -> ReturnedSession
-    ensures { load_in result ≡ load_result loaded }
-{
-    returned(loaded.answer.and(Ok(0)), loaded.session)
-}
+impl From<Loaded> for ReturnedSession {
+    ghost from_gives = { λ loaded returned. load_in returned ≡ load_result loaded };
 
-fn returned_call(called: Called) -> ReturnedSession
-    ensures { (bytes : List ℕ) → call_in result bytes ≡ call_result called bytes }
-{
-    returned(called.answer, called.session)
-}
-
-fn returned_read(answer: Result<Reading, Refusal>) -> ReturnedReading
-    ensures { read_in result ≡ read_answer answer }
-{
-    match answer {
-        Ok(reading) => ReturnedReading {
-            accepted: true,
-            refusal: 0,
-            state: reading.state,
-            value: reading.value,
-            count: reading.count,
-        },
-        Err(refusal) => ReturnedReading {
-            accepted: false,
-            refusal: u8::from(refusal),
-            state: 0,
-            value: 0,
-            count: 0,
-        },
+    fn from(loaded: Loaded) -> ReturnedSession {
+        returned(loaded.answer.and(Ok(0)), loaded.session)
     }
 }
 
-fn returned_check(answer: CountsAnswer) -> ReturnedCheck
-    ensures { check_in result ≡ counts_answer answer }
-{
-    match answer {
-        CountsAnswer::Shown => ReturnedCheck {
-            accepted: true,
-            refusal: 0,
-            condition: 0,
-        },
-        CountsAnswer::Fails(condition) => ReturnedCheck {
-            accepted: true,
-            refusal: 0,
-            condition: u8::from(condition),
-        },
-        CountsAnswer::Refused(refusal) => ReturnedCheck {
-            accepted: false,
-            refusal: u8::from(refusal),
-            condition: 0,
-        },
+impl From<Called> for ReturnedSession {
+    ghost from_gives = { λ called returned. (bytes : List ℕ) → call_in returned bytes ≡ call_result called bytes };
+
+    fn from(called: Called) -> ReturnedSession {
+        returned(called.answer, called.session)
     }
 }
 
-fn returned_count(answer: CountAnswer) -> ReturnedCount
-    ensures { count_in result ≡ count_answer answer }
-{
-    match answer {
-        CountAnswer::Count(count) => ReturnedCount {
-            accepted: true,
-            refusal: 0,
-            condition: 0,
-            count,
-        },
-        CountAnswer::Fails(condition) => ReturnedCount {
-            accepted: true,
-            refusal: 0,
-            condition: u8::from(condition),
-            count: 0,
-        },
-        CountAnswer::Refused(refusal) => ReturnedCount {
-            accepted: false,
-            refusal: u8::from(refusal),
-            condition: 0,
-            count: 0,
-        },
+impl From<Result<Reading, Refusal>> for ReturnedReading {
+    ghost from_gives = { λ answer returned. read_in returned ≡ read_answer answer };
+
+    fn from(answer: Result<Reading, Refusal>) -> ReturnedReading {
+        match answer {
+            Ok(reading) => ReturnedReading {
+                accepted: true,
+                refusal: 0,
+                state: reading.state,
+                value: reading.value,
+                count: reading.count,
+            },
+            Err(refusal) => ReturnedReading {
+                accepted: false,
+                refusal: u8::from(refusal),
+                state: 0,
+                value: 0,
+                count: 0,
+            },
+        }
+    }
+}
+
+impl From<CountsAnswer> for ReturnedCheck {
+    ghost from_gives = { λ answer returned. check_in returned ≡ counts_answer answer };
+
+    fn from(answer: CountsAnswer) -> ReturnedCheck {
+        match answer {
+            Ok(Ok(())) => ReturnedCheck {
+                accepted: true,
+                refusal: 0,
+                condition: 0,
+            },
+            Ok(Err(condition)) => ReturnedCheck {
+                accepted: true,
+                refusal: 0,
+                condition: u8::from(condition),
+            },
+            Err(refusal) => ReturnedCheck {
+                accepted: false,
+                refusal: u8::from(refusal),
+                condition: 0,
+            },
+        }
+    }
+}
+
+impl From<CountAnswer> for ReturnedCount {
+    ghost from_gives = { λ answer returned. count_in returned ≡ count_answer answer };
+
+    fn from(answer: CountAnswer) -> ReturnedCount {
+        match answer {
+            Ok(Ok(count)) => ReturnedCount {
+                accepted: true,
+                refusal: 0,
+                condition: 0,
+                count,
+            },
+            Ok(Err(condition)) => ReturnedCount {
+                accepted: true,
+                refusal: 0,
+                condition: u8::from(condition),
+                count: 0,
+            },
+            Err(refusal) => ReturnedCount {
+                accepted: false,
+                refusal: u8::from(refusal),
+                condition: 0,
+                count: 0,
+            },
+        }
     }
 }
 
@@ -164,7 +174,7 @@ fn returned_count(answer: CountAnswer) -> ReturnedCount
 pub extern "C" fn probe_load(document: &[u8]) -> ReturnedSession
     ensures { load_in result ≡ load document.now }
 {
-    returned_load(player::load(document))
+    ReturnedSession::from(player::load(document))
 }
 
 #[unsafe(no_mangle)]
@@ -178,40 +188,40 @@ pub extern "C" fn probe_command(
     ensures { call_in result log.new
         ≡ call s (command action target value) (length log.old) }
 {
-    returned_call(player::command(s, action, target, value, log))
+    ReturnedSession::from(player::command(s, action, target, value, log))
 }
 
 #[unsafe(no_mangle)]
 pub extern "C" fn probe_key(s: Session, code: u8, log: &mut [u8]) -> ReturnedSession
     ensures { call_in result log.new ≡ call s (Key code) (length log.old) }
 {
-    returned_call(player::key(s, code, log))
+    ReturnedSession::from(player::key(s, code, log))
 }
 
 #[unsafe(no_mangle)]
 pub extern "C" fn probe_tick(s: Session, log: &mut [u8]) -> ReturnedSession
     ensures { call_in result log.new ≡ call s Tick (length log.old) }
 {
-    returned_call(player::tick(s, log))
+    ReturnedSession::from(player::tick(s, log))
 }
 
 #[unsafe(no_mangle)]
 pub extern "C" fn probe_read(s: Session, class: u8, id: u8) -> ReturnedReading
     ensures { read_in result ≡ read s class id }
 {
-    returned_read(player::read(s, class, id))
+    ReturnedReading::from(player::read(s, class, id))
 }
 
 #[unsafe(no_mangle)]
 pub extern "C" fn probe_check_counts(s: Session, media: u8, property: u8) -> ReturnedCheck
     ensures { check_in result ≡ check_counts s media property }
 {
-    returned_check(player::check_counts(s, media, property))
+    ReturnedCheck::from(player::check_counts(s, media, property))
 }
 
 #[unsafe(no_mangle)]
 pub extern "C" fn probe_count_of(s: Session, anchor: u8, property: u8) -> ReturnedCount
     ensures { count_in result ≡ give_count s anchor property }
 {
-    returned_count(player::count_of(s, anchor, property))
+    ReturnedCount::from(player::count_of(s, anchor, property))
 }

@@ -54,8 +54,7 @@ pub fn read(s: &UnbrokenSession, class: u8, id: u8) -> Result<Reading, Refusal>
     if !class_is_read(class) {
         return Err(Refusal::BadArgument);
     }
-    let d = &s.document.document;
-    if !subject_given(class, id, d.nodes.count, d.anchors.count, d.properties) {
+    if !subject_given(&s.document.document, class, id) {
         return Err(Refusal::NoSuchId);
     }
     Ok(read_event(&s.state, class, usize::from(id)))
@@ -76,15 +75,12 @@ pub fn check_counts(s: &UnbrokenSession, media: u8, property: u8) -> CountsAnswe
 {
     let d = &s.document.document;
     if !both_given(media, d.nodes.count, property, d.properties) {
-        return CountsAnswer::Refused(Refusal::NoSuchId);
+        return Err(Refusal::NoSuchId);
     }
     if d.nodes.types[usize::from(media)] != terms::MEDIA {
-        return CountsAnswer::Refused(Refusal::NoSuchId);
+        return Err(Refusal::NoSuchId);
     }
-    match counts::first_failing(&s.document, media, property) {
-        Ok(()) => CountsAnswer::Shown,
-        Err(condition) => CountsAnswer::Fails(condition),
-    }
+    Ok(counts::first_failing(&s.document, media, property))
 }
 
 #[tactic(auto, using(base::specs::Tests::when_tells, crate::proofs::Given::few_anchors), unfolding(machine::specs::Counts::give_count, machine::specs::Counts::with_count, machine::specs::Counts::shows_counts))]
@@ -93,10 +89,11 @@ pub fn count_of(s: &UnbrokenSession, anchor: u8, property: u8) -> CountAnswer
 {
     let d = &s.document.document;
     if !both_given(anchor, d.anchors.count, property, d.properties) {
-        return CountAnswer::Refused(Refusal::NoSuchId);
+        return Err(Refusal::NoSuchId);
     }
-    match counts::first_failing(&s.document, d.anchors.media[usize::from(anchor)], property) {
-        Ok(()) => CountAnswer::Count(counts::count_of(&s.document, property, anchor)),
-        Err(condition) => CountAnswer::Fails(condition),
-    }
+    let media = d.anchors.media[usize::from(anchor)];
+    Ok(match counts::first_failing(&s.document, media, property) {
+        Ok(()) => Ok(counts::count_of(&s.document, property, anchor)),
+        Err(condition) => Err(condition),
+    })
 }

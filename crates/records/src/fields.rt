@@ -1,4 +1,4 @@
-// Entries of a table or body, 0 past its end; fields of several bytes, the low byte first; an action of a body or a table; and an anchor of its table.
+// Entries of a table or body, 0 past its end; fields of several bytes, the low byte first; an action of a body or a table; an anchor of its table.
 ghost use Rattle.std.specs.Prelude.{◌≡◌, ◌<◌, ◌≤◌, ◌+◌, ◌*◌, get_or};
 ghost use Rattle.machine.specs.Fields.{u16, i32};
 ghost use Rattle.machine.specs.Tables.{action_at, anchor_at};
@@ -21,7 +21,8 @@ pub fn number_at(table: &[u16], at: usize) -> u16
     table.get(at).copied().unwrap_or(0)
 }
 
-// Places of fields are small, so that the sums below do not overflow.
+// Two, which differ in type and size alone: `from_le_bytes` is a method of each type and of no trait, so that a generic one would need a
+// trait with these two as its impls; and the definitions are two. Places of fields are small, so that the sums below do not overflow.
 
 pub fn u16_at(body: &[u8], at: usize) -> u16
     requires { at ≤ 255 }
@@ -52,6 +53,8 @@ pub fn action_of(body: &[u8]) -> ActionRecord
         value: i32_at(body, 2),
     }
 }
+
+// An entry as a record, each from the columns of its own table, laid out for C.
 
 // Action j of link l.
 pub fn action_at(actions: &Actions, l: usize, j: usize) -> ActionRecord

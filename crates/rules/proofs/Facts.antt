@@ -5,13 +5,13 @@ use mathlib.Core.List.{List}
 use mathlib.Core.Path.{◌≡◌, ◌∙◌}
 use native.Mathlib.Omega.{arith}
 use lib.IntN.{ℤ}
-use Rattle.std.specs.Prelude.{Option}
 use Rattle.machine.specs.declared.Rules.{Rules}
 use Rattle.machine.specs.declared.Document.{Document}
 use Rattle.machine.specs.Deciding.{rule_holds}
 use Rattle.machine.specs.Sound.{SoundRules, Sound}
 use Rattle.rules.proofs.ByKind.{composite}
-use Rattle.rules.specs.Memo.{Known, Decided}
+use Rattle.rules.specs.declared.KnownRules.{KnownRules}
+use Rattle.rules.specs.Memo.{KnownIn, DecidedIn}
 
 pub sound_rules : {d : Document} → Sound d → SoundRules 32 d.rules
 sound_rules s = record {
@@ -21,15 +21,20 @@ sound_rules s = record {
   right = s.rules.right;
 }
 
-module _ {properties : ℕ} {rules : Rules} {values : List ℤ} {known after : List (Option Bool)} {id : ℕ} {holds : Bool}
-    (s : SoundRules properties rules) (k : Known rules values rules.count known) (h : id < rules.count) (decided : Decided rules known id holds after) where
-  pub decided_right : (holds ≡ rule_holds rules values id) × Known rules values rules.count after
+module _ {properties : ℕ} {rules : Rules} {values : List ℤ} {k after : KnownRules} {id : ℕ} {holds : Bool}
+    (s : SoundRules properties rules) (known : KnownIn k rules values) (h : id < rules.count) (decision : DecidedIn k id holds after) where
+  pub decided_right : (holds ≡ rule_holds rules values id) × KnownIn after rules values
   decided_right =
-      let both = decided.right (rule_holds rules values) k.marked (λ i l e. composite rules values s i (omega arith) (k.composite i (omega arith) e)) in (
+      let before = known.known in
+      let decided = rw known.same_rules at decision.decided in
+      let both = decided.right (rule_holds rules values) before.marked (λ i l e. composite rules values s i (omega arith) (before.composite i (omega arith) e)) in (
         both.0,
         record {
-          places = decided.places ∙ k.places;
-          marked = both.1;
-          composite = λ i l e. k.composite i l (decided.kept i e);
+          same_rules = rw decision.same_rules known.same_rules;
+          known = record {
+            places = decided.places ∙ before.places;
+            marked = both.1;
+            composite = λ i l e. before.composite i l (decided.kept i e);
+          };
         },
       )

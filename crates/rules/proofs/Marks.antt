@@ -18,7 +18,8 @@ use Rattle.machine.specs.declared.Rules.{Rules}
 use Rattle.machine.specs.Terms.{simple_rule}
 use Rattle.machine.specs.Tables.{rule_at}
 use Rattle.machine.specs.Deciding.{combined, rule_holds}
-use Rattle.rules.specs.Memo.{mark_at, Marked, Known, Earlier, Decided}
+use Rattle.rules.specs.declared.KnownRules.{KnownRules}
+use Rattle.rules.specs.Memo.{mark_at, Marked, Known, EarlierIn, DecidedIn}
 
 -- after a store, what is true of the stored mark and of every other is true of all
 stored : (P : ℕ → Option Bool → Type 0) (known : List (Option Bool)) (i : ℕ) (x : Option Bool) → i < length known → P i x
@@ -55,22 +56,30 @@ module _ (rules : Rules) (values : List ℤ) where
       composite = λ j m z. ⊎_elim (λ (q : j ≡ n). rw q d) (λ (q : j < n). k.composite j q z) (eq-or-lt_of_le (omega arith));
     }
 
-module _ {rules : Rules} {known : List (Option Bool)} {id : ℕ} where
-  pub from_two : {first second : List (Option Bool)} {a b holds : Bool}
-      → Decided rules known (rule_at rules id).left a first → Decided rules first (rule_at rules id).right b second
-      → Earlier rules known id → mark_at known id ≡ None → id < length known
-      → holds ≡ combined (rule_at rules id).operator a b
-      → Decided rules known id holds (set second id (Some holds))
-  from_two {second = second} {holds = holds} p q earlier e few combine =
-      let same = q.places ∙ p.places in
+module _ {k first second : KnownRules} {id left right : ℕ} {a b holds : Bool} where
+  pub from_two : left ≡ (rule_at k.rules.now id).left → DecidedIn k left a first
+      → right ≡ (rule_at first.rules.now id).right → DecidedIn first right b second
+      → EarlierIn k id → mark_at k.known id ≡ None → id < length k.known
+      → holds ≡ combined (rule_at second.rules.now id).operator a b
+      → DecidedIn k id holds (record { rules = second.rules; known = set second.known id (Some holds) })
+  from_two l p r q earlier e few combine =
+      let one = rw l at p.decided in
+      let two = rw (r, p.same_rules) at q.decided in
+      let same = two.places ∙ one.places in
       let below = earlier id (omega arith) e in
+      let marks = second.known in
       record {
-        places = length-set second id (Some holds) ∙ same;
-        kept = stored (λ j v. v ≡ None → mark_at known j ≡ None) second id (Some holds) (omega arith) (λ z. absurd (none-some _ (sym z))) (λ j _ z. p.kept j (q.kept j z));
-        noted = rw (get_or-set_same second id (Some holds) None (omega arith)) (λ z. none-some _ (sym z));
-        right = λ answer h c.
-            let first_right = p.right answer h (λ i l z. c i (omega arith) z) in
-            let second_right = q.right answer first_right.1 (λ i l z. c i (omega arith) (p.kept i z)) in
-            let holds_right : holds ≡ answer id = rw (c id (omega arith) e, ← first_right.0, ← second_right.0) combine in
-            (holds_right, one_marked answer second id (omega arith) second_right.1 holds_right);
+        same_rules = q.same_rules ∙ p.same_rules;
+        decided = record {
+          places = length-set marks id (Some holds) ∙ same;
+          kept = stored (λ j v. v ≡ None → mark_at k.known j ≡ None) marks id (Some holds) (omega arith)
+              (λ z. absurd (none-some _ (sym z))) (λ j _ z. one.kept j (two.kept j z));
+          noted = rw (get_or-set_same marks id (Some holds) None (omega arith)) (λ z. none-some _ (sym z));
+          right = λ answer h c.
+              let first_right = one.right answer h (λ i l z. c i (omega arith) z) in
+              let second_right = two.right answer first_right.1 (λ i l z. c i (omega arith) (one.kept i z)) in
+              let combined_right = rw (q.same_rules, p.same_rules) at combine in
+              let holds_right : holds ≡ answer id = rw (c id (omega arith) e, ← first_right.0, ← second_right.0) combined_right in
+              (holds_right, one_marked answer marks id (omega arith) second_right.1 holds_right);
+        };
       }

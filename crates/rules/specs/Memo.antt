@@ -4,6 +4,7 @@ use Rattle.machine.specs.declared.Rules.{Rules}
 use Rattle.machine.specs.Terms.{simple_rule}
 use Rattle.machine.specs.Tables.{rule_at}
 use Rattle.machine.specs.Deciding.{combined, rule_holds}
+use Rattle.rules.specs.declared.KnownRules.{KnownRules}
 
 abbrev pub mark_at : List (Option Bool) → ℕ → Option Bool
 mark_at known i = get_or known i None
@@ -34,3 +35,18 @@ pub record Decided (rules : Rules) (known : List (Option Bool)) (id : ℕ) (hold
   pub kept : (i : ℕ) → mark_at after i ≡ None → mark_at known i ≡ None
   pub noted : mark_at after id ≡ None → ⊥
   pub right : (answer : ℕ → Bool) → Marked answer known → Combined answer rules known id → (holds ≡ answer id) × Marked answer after
+
+-- ---- of rules together with what is known of them
+
+-- they are these rules, and this much is known of them on these values
+pub record KnownIn (k : KnownRules) (rules : Rules) (values : List ℤ) : Type 0 where
+  pub same_rules : k.rules.now ≡ rules
+  pub known : Known rules values rules.count k.known
+
+abbrev pub EarlierIn : KnownRules → ℕ → Type 0
+EarlierIn k id = Earlier k.rules.now k.known id
+
+-- rule id was decided: the rules stay
+pub record DecidedIn (k : KnownRules) (id : ℕ) (holds : Bool) (after : KnownRules) : Type 0 where
+  pub same_rules : after.rules ≡ k.rules
+  pub decided : Decided k.rules.now k.known id holds after.known

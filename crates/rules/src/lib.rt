@@ -8,7 +8,6 @@ ghost use Rattle.machine.specs.Terms.{no_id};
 ghost use Rattle.machine.specs.Tables.{rule_at};
 ghost use Rattle.machine.specs.Deciding.{compared, combined, rule_holds, guard_holds};
 ghost use Rattle.machine.specs.Sound.{SoundRules};
-ghost use Rattle.rules.specs.Memo.{Known, Earlier, Decided};
 
 use machine::{Rules, terms};
 
@@ -45,35 +44,48 @@ fn simple_rule_holds(rules: &Rules, values: &[i32; 32], id: usize) -> bool
     compare(rules.comparators[id], x, y)
 }
 
-// What is known of the rules, by id, once the simple ones are decided: whether each holds, where it is decided.
-pub fn simple_marks(rules: &Rules, values: &[i32; 32]) -> [Option<bool>; 32]
-    requires { SoundRules 32 rules.now }
-    ensures { Known rules.now values.now rules.now.count result }
-{
-    let mut known = [None; 32];
-    for id in 0..rules.count {
-        if rules.kinds[id] == terms::SIMPLE_RULE {
-            known[id] = Some(simple_rule_holds(rules, values, id));
-        }
-    }
-    known
+// What is known of rules on some values, while they are decided: of each, by id, whether it holds, where it is decided.
+#[derive(Drop)]
+pub struct KnownRules<'a> {
+    rules: &'a Rules,
+    known: [Option<bool>; 32],
 }
 
-// Whether a rule holds; each rule that is decided for it is known then.
-pub fn decide(rules: &Rules, known: &mut [Option<bool>; 32], id: usize) -> bool
-    requires { (id < 32) × Earlier rules.now known.old id }
-    ensures { Decided rules.now known.old id result known.new }
-{
-    if let Some(holds) = known[id] {
-        return holds;
+impl<'a> KnownRules<'a> {
+    ghost use Rattle.std.specs.Prelude.{◌<◌};
+    ghost use Rattle.machine.specs.Sound.{SoundRules};
+    ghost use Rattle.rules.specs.Memo.{KnownIn, EarlierIn, DecidedIn};
+
+    // The simple rules are decided.
+    pub fn new(rules: &'a Rules, values: &[i32; 32]) -> KnownRules<'a>
+        requires { SoundRules 32 rules.now }
+        ensures { KnownIn result rules.now values.now }
+    {
+        let mut known = [None; 32];
+        for id in 0..rules.count {
+            if rules.kinds[id] == terms::SIMPLE_RULE {
+                known[id] = Some(simple_rule_holds(rules, values, id));
+            }
+        }
+        KnownRules { rules, known }
     }
-    let left = usize::from(rules.lefts[id]);
-    let first = decide(rules, &mut *known, left);
-    let right = usize::from(rules.rights[id]);
-    let second = decide(rules, &mut *known, right);
-    let holds = combine(rules.operators[id], first, second);
-    known[id] = Some(holds);
-    holds
+
+    // Whether a rule holds; each rule that is decided for it is known then.
+    pub fn decide(&mut self, id: usize) -> bool
+        requires { (id < 32) × EarlierIn self.old id }
+        ensures { DecidedIn self.old id result self.new }
+    {
+        if let Some(holds) = self.known[id] {
+            return holds;
+        }
+        let left = usize::from(self.rules.lefts[id]);
+        let first = self.decide(left);
+        let right = usize::from(self.rules.rights[id]);
+        let second = self.decide(right);
+        let holds = combine(self.rules.operators[id], first, second);
+        self.known[id] = Some(holds);
+        holds
+    }
 }
 
 // Whether the rule holds on the values of the properties.
@@ -85,8 +97,7 @@ pub fn rule_holds(rules: &Rules, values: &[i32; 32], id: usize) -> bool
     if rules.kinds[id] == terms::SIMPLE_RULE {
         return simple_rule_holds(rules, values, id);
     }
-    let mut known = simple_marks(rules, values);
-    decide(rules, &mut known, id)
+    KnownRules::new(rules, values).decide(id)
 }
 
 // Whether the guard holds, if there is one.

@@ -5,8 +5,9 @@ use mathlib.Core.Bool.{true, false≢true}
 use mathlib.Core.List.{List, [], ◌∷◌, ◌++◌, append_assoc}
 use mathlib.Core.Path.{◌≡◌, refl, sym, ap, ◌∙◌}
 use lib.ListN.{length, length-append, length-drop, take, drop}
-use lib.Seq.{take_all, take-append-le, drop-append-le, drop-drop}
+use lib.Seq.{length-take-le, take_all, take-append-le, drop-append-le, drop-drop, slice}
 use borrow.Author.Tests.{leb-true, le-leb}
+use Rattle.std.proofs.lemmas.List.{drop-take}
 use Rattle.base.specs.Tests.{when◌then◌else◌, by_test, both_pass, ◌≤?◌}
 use Rattle.machine.specs.Operations.{CallResult, call}
 use Rattle.machine.specs.PrintedRun.{printed_call, script_length, is_script_kind, is_call, call_of, printed_script}
@@ -15,6 +16,7 @@ use Rattle.machine.specs.declared.Call.{Call}
 use Rattle.machine.specs.declared.Session.{Session}
 use Rattle.printing.specs.declared.script.ScriptRecord.{ScriptRecord}
 use Rattle.printing.specs.Script.{record_after, script_record}
+use Rattle.printing.specs.Writing.{Printed}
 use Rattle.script_run.specs.Running.{printed_all, call_size, GoesOn, Ends}
 
 -- a larger bound on the records prints no more
@@ -128,3 +130,14 @@ module _ {number n : ℕ} {s session : Session} {written written' : List ℕ} (u
 
   pub ran_wrong : script_record (drop used script) ≡ ScriptRecord.Wrong → written' ≡ written ++ text_of "script\n" → Ends number s script written'
   ran_wrong first a = record { prints = λ rest. ran.prints rest ∙ rw (wrong_first (drop used script) rest first n session, a) }
+
+-- ---- bytes that went to the front of their slice
+
+pub all_moved : (start end : ℕ) (before after : List ℕ) (next : ℕ) → next ≡ end - start → start ≤ end → end ≤ length before → length after ≡ length before
+    → take next after ≡ take next (drop start before) → Printed (slice start end before) after next
+all_moved start end before after next size h k same moved =
+    let all : start + next ≡ end = omega arith in
+    record {
+      front = (omega arith, sym (length-take-le next after (omega arith)));
+      printed = moved ∙ sym (rw all at (drop-take start next before));
+    }

@@ -1,5 +1,6 @@
 -- Laws of start: what it finds at a node, and what it does there; the ports of a context, and the child of a switch.
 use mathlib.Core.Path.{◌≡◌, refl, sym, ◌∙◌}
+use mathlib.Core.Bool.{not}
 use mathlib.Core.List.{List}
 use Prim.Native.Nat.{ℕ, suc, ◌+◌, ◌-◌, ◌<◌}
 use native.Mathlib.Omega.{arith}
@@ -23,6 +24,7 @@ use Rattle.starting.specs.Reached.{Begun, ReachRun, Reached, context_by, switch_
 use Rattle.starting.specs.declared.start.Found.{Found}
 use Rattle.starting.specs.declared.start.Found.TheVariants.{Media, Context, Switch}
 use Rattle.starting.specs.declared.start.Start.{Start}
+use Rattle.starting.proofs.Finding.{media_sleeps}
 use Rattle.starting.proofs.QueueLaws.{awake_stays}
 
 -- ---- one level of a start, by what it finds
@@ -53,9 +55,9 @@ reached_then before after same = record {
   run = λ r x c a levels b. rw (same levels x (rw a.values c)) (after.run r _ (rw (before.document, before.chosen) c) (before.run r x c a levels b) levels b);
 }
 
-node_reached : {s s' : Start} {n child : ℕ} {found : Option Found} → LaterChild n child → found ≡ found_at (type_of s.document.now.nodes child) (get_or s.states child 0)
+from_start_lem : {s s' : Start} {n child : ℕ} {found : Option Found} → LaterChild n child → found ≡ found_at (type_of s.document.now.nodes child) (get_or s.states child 0)
     → Reached s child (found_by found s.document.now child) s' → Reached s n (λ levels. started s.document.now levels child) s'
-node_reached {s} {n} {child} {found} later is reached = record {
+from_start_lem {s} {n} {child} {found} later is reached = record {
   document = reached.document;
   chosen = reached.chosen;
   run = λ r x c a levels b.
@@ -63,6 +65,21 @@ node_reached {s} {n} {child} {found} later is reached = record {
       let here : found ≡ found_at (type_of s.document.now.nodes child) (node_state x.state child) = is ∙ rw a.states in
       rw (above, started_found s.document.now (levels - 1) child x, ← here) (reached.run r x c a (levels - 1) (omega (arith, later)));
 }
+
+-- ---- a child that is asked by a port of context n, or is the choice of switch n: it is later, and if a media is found there, it sleeps
+
+abbrev Finds : ℕ → ℕ → ℕ → Option Found → Type 0
+Finds n child state found = LaterChild n child × (found ≡ Some Media → state ≡ sleeping)
+
+module _ {n child : ℕ} (type state : ℕ) {found : Option Found} (is : found ≡ found_at type state) where
+  finds : LaterChild n child → Finds n child state found
+  finds later = (later, λ m. media_sleeps type state (sym m ∙ is))
+
+  port_finds : (d : Document) → Sound d → (p : ℕ) → p < d.ports.count → n ≡ (port_at d.ports p).context → child ≡ (port_at d.ports p).child → Finds n child state found
+  port_finds d sound p h is_context is_child = finds (record { later = omega (arith, sound.port_later p h); below = omega (arith, sound.port_child p h, sound.nodes.few) })
+
+  choice_finds : (chosen : List ℕ) → LaterChoices chosen → n < 64 → child ≡ get_or chosen n 0 → (child ≡ 0 → ⊥) → Finds n child state found
+  choice_finds chosen later h is_child some = finds (rw is_child (later.choice n h (rw is_child at some)))
 
 -- ---- the ports of context n
 
@@ -88,12 +105,25 @@ module _ {s₀ s : Start} {n : ℕ} (p : ℕ) (before : Reached s₀ n (ports_by
         → found ≡ found_at (type_of s.document.now.nodes child) (get_or s.states child 0) → Reached s child (found_by found s.document.now child) s' → Reached s₀ n (ports_by s₀ n (p + 1)) s'
     unfolding port_started when◌then◌else◌
     port_turn own h is_child is reached =
-        let below : p < s.document.now.ports.count = rw before.document h in
-        let later : LaterChild n _ = record { later = omega (arith, s.sound.port_later p below); below = omega (arith, s.sound.port_child p below, s.sound.nodes.few) } in
-        reached_then before (node_reached later is reached) (λ levels x c.
+        reached_then before (from_start_lem (port_finds _ _ is s.document.now s.sound p (rw before.document h) (sym own ∙ is_context) is_child).0 is reached) (λ levels x c.
         sym (ascending_more (port_started s₀.document.now (started s₀.document.now levels) n) p x refl (rw (← before.document, ← is_context, ← is_child, eq-eqb _ _ own))))
 
 -- ---- the child of switch n: the choice is made, before the child starts
+
+switch_started_lem : (d : Document) → Sound d → (chosen : List ℕ) {n child : ℕ} → n < 64 → child ≡ get_or chosen n 0 → (start : ℕ → Run → Run) (x : Run)
+    → FoundChildren d.binds d.rules x.state.properties.values chosen
+    → switch_started d start n x ≡ (when not (child =? 0) then start child (choice_made n child x) else choice_made n child x)
+unfolding switch_started child_found when◌then◌else◌
+switch_started_lem d sound chosen {n} {child} h is_child start x c =
+    let b = found_bind d.binds d.rules x.state.properties.values n in
+    let e = is_child ∙ c.found n h in
+    by_test (b <? d.binds.count)
+    (λ f.
+    let own : child ≡ (bind_at d.binds b).child = e ∙ rw f in
+    rw (f, ← own, ne_eqb child 0 (λ z. omega (arith, sound.bind_later b (ltb-true _ _ f)))))
+    (λ f.
+    let none : child ≡ 0 = e ∙ rw f in
+    rw (f, none))
 
 -- s is s₀ but for the choice of switch n
 abbrev pub Chose : Start → ℕ → Start → Type 0
@@ -111,30 +141,13 @@ module _ {s₀ : Start} {n child : ℕ} (h : n < 64) (is_child : child ≡ get_o
 
   pub choice_turn : {s s' : Start} (found : Option Found) → Reached s child (found_by found s.document.now child) s' → found ≡ found_at (type_of s.document.now.nodes child) (get_or s.states child 0)
       → (child ≡ 0 → ⊥) → Chose s₀ n s → Reached s₀ n (switch_by s₀ n) s'
-  unfolding switch_started child_found when◌then◌else◌
-  choice_turn found reached is some chose =
-      let later : LaterChild n child = rw is_child (s₀.later.choice n h (rw is_child at some)) in
-      reached_then (choice_reached chose) (node_reached later is reached) (λ levels x c.
-      let d = s₀.document.now in
-      let b = found_bind d.binds d.rules x.state.properties.values n in
-      let e = is_child ∙ c.found n h in
-      by_test (b <? d.binds.count)
-      (λ f.
-      let own : child ≡ (bind_at d.binds b).child = e ∙ rw f in
-      rw (f, ← own, chose.0))
-      (λ f. absurd (some (e ∙ rw f))))
+  unfolding when◌then◌else◌
+  choice_turn found reached is some chose = reached_then (choice_reached chose) (from_start_lem (choice_finds _ _ is s₀.chosen s₀.later h is_child some).0 is reached) (λ levels x c.
+      switch_started_lem s₀.document.now s₀.sound s₀.chosen h is_child (started s₀.document.now levels) x c ∙ rw (ne_eqb child 0 some, chose.0))
 
   pub choice_idle : {s : Start} → child ≡ 0 → Chose s₀ n s → Reached s₀ n (switch_by s₀ n) s
-  unfolding switch_started child_found when◌then◌else◌
-  choice_idle none chose = reached_then (choice_reached chose) (not_reached _ n) (λ levels x c.
-      let d = s₀.document.now in
-      let b = found_bind d.binds d.rules x.state.properties.values n in
-      let e = is_child ∙ c.found n h in
-      by_test (b <? d.binds.count)
-      (λ f.
-      let own : child ≡ (bind_at d.binds b).child = e ∙ rw f in
-      absurd (omega (arith, s₀.sound.bind_later b (ltb-true _ _ f))))
-      (λ f. rw (f, none)))
+  unfolding when◌then◌else◌
+  choice_idle none chose = reached_then (choice_reached chose) (not_reached _ n) (λ levels x c. switch_started_lem s₀.document.now s₀.sound s₀.chosen h is_child (started s₀.document.now levels) x c ∙ rw none)
 
 -- ---- the choices of a document's switches
 

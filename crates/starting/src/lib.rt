@@ -27,7 +27,8 @@ impl Queue {
         }
     }
 
-    // Media n is the last of the queue. Its id fits a byte, by what is required; so it is cast.
+    // Media n is the last of the queue. Its id fits a byte, by what is required, and is cast: `try_from` would give a Result that cannot
+    // fail here, to be unwrapped by the same fact.
     pub fn push(&mut self, n: usize)
         requires { (n < 64) × (self.old.count < 64) }
         ensures { self.new ≡ queue_of (set self.old.media self.old.count n) (self.old.count + 1) }
@@ -45,7 +46,9 @@ pub struct Reach {
 }
 
 // What the start of node n reaches, where nodes have these states, properties these values and switches these choices. Lent the three
-// columns that a start reads, and no whole state, since what it promises is of every state that has them.
+// columns that a start reads, and no whole state, since what it promises is of every state that has them. A `Start` is made in two arms:
+// before the match it would be made for a media or an awake node too, with every rule decided for nothing; and in one arm for both kinds
+// of composite, these would have to be told apart once more.
 pub fn media_of_start(
     d: &SoundDocument,
     states: &[u8; 64],

@@ -20,7 +20,7 @@ struct Marks {
     pauses: [bool; 256],
 }
 
-// Marked in place, since a copy of all marks takes time.
+// Marked in place, since a copy of all marks takes time. Lent the states alone, so that it is said of every state that has them.
 fn mark_parents(nodes: &Nodes, states: &[u8; 64], marks: &mut Marks)
     requires { (nodes.now.count ≤ 64)
         × (marks.old.occurs ≡ replicate 256 false)

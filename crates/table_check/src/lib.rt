@@ -1,21 +1,22 @@
 // The tables obey the rules of loading: each entry is checked as the record that made it.
 #![tactic(auto)]
 
-ghost use Rattle.std.specs.Prelude.{◌≡◌, ◌+◌, ◌*◌, ◌<◌};
+ghost use Rattle.std.specs.Prelude.{◌≡◌, ◌<◌};
 ghost use Rattle.base.specs.Loops.{every};
 ghost use Rattle.machine.specs.Tables.{node_at, rule_at, bind_at, port_at, link_at, action_count};
 ghost use Rattle.machine.specs.Broken.{node_obeys, anchor_obeys, rule_unused_zero, rule_obeys, bind_obeys, port_obeys, action_obeys, link_obeys, tables_obey};
 
 use checks::{
     check_action, check_anchor, check_bind, check_link, check_node, check_port, check_rule,
+    parent_of,
 };
 use machine::{
     BindRecord, Binds, Document, LinkRecord, Links, NodeRecord, Nodes, PortRecord, Ports,
     RuleRecord, Rules, terms,
 };
-use records::fields::{action_at, anchor_at, byte_at, number_at};
+use records::fields::{action_at, anchor_at};
 
-// ---- an entry as a record: each table has columns of its own
+// ---- an entry as a record, each from the columns of its own table, laid out for C
 
 fn node_at(nodes: &Nodes, i: usize) -> NodeRecord
     requires { i < 64 }
@@ -77,8 +78,8 @@ fn link_at(links: &Links, i: usize) -> LinkRecord
     }
 }
 
-// ---- the entries of each table, whose columns are its own, laid out for C. No early end: each loop is the
-// `every` of the definition; `all` over a range was tried in the like loop of `choices`, and its proof did not close.
+// ---- the entries of each table, whose columns are its own, laid out for C. A loop for each, and no `all` over the range: without an early end
+// each turn is the same.
 
 #[tactic(auto, using(crate::proofs::Full::full_nodes, crate::proofs::Passed::passed), unfolding(base::specs::Loops::every, machine::specs::Broken::node_obeys))]
 fn nodes_obey(d: &Document) -> bool
@@ -89,9 +90,7 @@ fn nodes_obey(d: &Document) -> bool
     }
     let mut obey = true;
     for i in 0..d.nodes.count {
-        let node = node_at(&d.nodes, i);
-        let parent_type = byte_at(&d.nodes.types, usize::from(node.parent));
-        obey &= check_node(i, node, parent_type).is_ok();
+        obey &= check_node(&d.nodes, i, node_at(&d.nodes, i)).is_ok();
     }
     obey
 }
@@ -105,11 +104,7 @@ fn anchors_obey(d: &Document) -> bool
     }
     let mut obey = true;
     for i in 0..d.anchors.count {
-        let anchor = anchor_at(&d.anchors, i);
-        let media = usize::from(anchor.media);
-        let media_type = byte_at(&d.nodes.types, media);
-        let duration = number_at(&d.nodes.durations, media);
-        obey &= check_anchor(i, anchor, d.nodes.count, media_type, duration).is_ok();
+        obey &= check_anchor(&d.nodes, i, anchor_at(&d.anchors, i)).is_ok();
     }
     obey
 }
@@ -154,18 +149,7 @@ fn binds_obey(d: &Document) -> bool
     for i in 0..d.binds.count {
         let bind = bind_at(&d.binds, i);
         let switch = usize::from(bind.switch);
-        let switch_type = byte_at(&d.nodes.types, switch);
-        let parent = byte_at(&d.nodes.parents, usize::from(bind.child));
-        obey &= check_bind(
-            i,
-            bind,
-            d.nodes.count,
-            d.rules.count,
-            switch_type,
-            parent,
-            has_default[switch],
-        )
-        .is_ok();
+        obey &= check_bind(d, i, bind, has_default[switch]).is_ok();
         has_default[switch] |= bind.rule == terms::NO_ID;
     }
     obey
@@ -184,11 +168,9 @@ fn ports_obey(d: &Document) -> bool
     let mut obey = true;
     for i in 0..d.ports.count {
         let port = port_at(&d.ports, i);
-        let context_type = byte_at(&d.nodes.types, usize::from(port.context));
         let child = usize::from(port.child);
-        let parent = byte_at(&d.nodes.parents, child);
-        let has_same_port = has_port[child] & (parent == port.context);
-        obey &= check_port(i, port, d.nodes.count, context_type, parent, has_same_port).is_ok();
+        let has_same_port = has_port[child] & (parent_of(&d.nodes, port.child) == port.context);
+        obey &= check_port(d, i, port, has_same_port).is_ok();
         has_port[child] = true;
     }
     obey
@@ -206,13 +188,12 @@ fn actions_obey(d: &Document, link: usize) -> bool
     }
     let mut obey = true;
     for j in 0..count {
-        let action = action_at(&d.actions, link, j);
-        obey &= check_action(j, action, d.links.count, d.nodes.count, d.properties).is_ok();
+        obey &= check_action(d, j, action_at(&d.actions, link, j)).is_ok();
     }
     obey
 }
 
-#[tactic(auto, using(crate::proofs::Full::full_links, crate::proofs::Passed::passed), unfolding(base::specs::Loops::every, machine::specs::Broken::link_obeys))]
+#[tactic(auto, using(crate::proofs::Full::full_links, crate::proofs::Passed::passed, crate::proofs::Passed::link_obeys_lem), unfolding(base::specs::Loops::every))]
 fn links_obey(d: &Document) -> bool
     ensures { result ≡ every (link_obeys d.now) d.now.links.count }
 {
@@ -221,18 +202,7 @@ fn links_obey(d: &Document) -> bool
     }
     let mut obey = true;
     for i in 0..d.links.count {
-        let link = link_at(&d.links, i);
-        let owner_type = byte_at(&d.nodes.types, usize::from(link.owner));
-        let right = check_link(
-            i,
-            link,
-            d.nodes.count,
-            d.anchors.count,
-            d.properties,
-            d.rules.count,
-            owner_type,
-        );
-        obey &= right.is_ok() & actions_obey(d, i);
+        obey &= check_link(d, i, link_at(&d.links, i)).is_ok() & actions_obey(d, i);
     }
     obey
 }

@@ -101,6 +101,6 @@ module _ (d : Document) (n : ℕ) (r : Run) where
         → LastFound (due_next d.anchors.media d.anchors.ends first.state.nodes.clocks) d.anchors.count ending
         → LastFound (due_next d.anchors.media d.anchors.begins first.state.nodes.clocks) d.anchors.count beginning
         → stops ≡ (duration_of d.nodes n =? node_clock r.state n + 1)
-        → record { ending = get_or ending n 0; beginning = get_or beginning n 0; stops = stops } ≡ due_of d n (node_clock r.state n + 1)
+        → record { clock = node_clock r.state n + 1; ending = get_or ending n 0; beginning = get_or beginning n 0; stops = stops } ≡ due_of d n (node_clock r.state n + 1)
     unfolding due_of
     due_next_lem ending beginning stops ends begins e = rw (found_next _ ending ends, found_next _ beginning begins, e)

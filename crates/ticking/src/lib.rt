@@ -61,6 +61,7 @@ fn advance_all(d: &SoundDocument, w: &mut Work, log: &mut [u8])
         if advances(nodes.types[n], w.state.nodes.states[n], clock) {
             let now = clock + 1;
             let due = Due {
+                clock: now,
                 ending: ending[n],
                 beginning: beginning[n],
                 stops: nodes.durations[n] == now,
@@ -72,20 +73,19 @@ fn advance_all(d: &SoundDocument, w: &mut Work, log: &mut [u8])
                 &mut *log,
                 &mut w.written,
                 n,
-                now,
                 due,
             );
         }
     }
 }
 
-// A tick; its settling belongs to no action.
+// A tick; no action is the cause of its settling.
 #[tactic(auto, unfolding(machine::specs::Tick::ticked))]
 pub fn tick(d: &SoundDocument, w: &mut Work, log: &mut [u8])
     ensures { run w.new log.new ≡ ticked d.now.document (run w.old log.old) }
 {
     advance_all(d, &mut *w, &mut *log);
-    settle(&d.document.nodes, w, log, terms::NO_ACTION, 0);
+    settle(&d.document.nodes, w, log, None);
 }
 
 // A key logs one line.

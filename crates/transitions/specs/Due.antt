@@ -10,9 +10,10 @@ use Rattle.transitions.specs.declared.media.Due.{Due}
 unfoldable pub due_at : List ℕ → List ℕ → ℕ → ℕ → ℕ → Bool
 due_at media times n clock a = get_or media a 0 =? n && get_or times a 0 =? clock
 
--- one past the last anchor of n that ends at the clock, one past the last that begins at it, and whether the duration of n is the clock
+-- the clock, one past the last anchor of n that ends at it, one past the last that begins at it, and whether the duration of n is the clock
 unfoldable pub due_of : Document → ℕ → ℕ → Due
 due_of d n clock = record {
+  clock = clock;
   ending = past_last (due_at d.anchors.media d.anchors.ends n clock) d.anchors.count;
   beginning = past_last (due_at d.anchors.media d.anchors.begins n clock) d.anchors.count;
   stops = duration_of d.nodes n =? clock;

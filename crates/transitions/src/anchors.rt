@@ -7,11 +7,12 @@ ghost use Rattle.changes.specs.Moves.{moves};
 ghost use Rattle.transitions.specs.Lent.{Rest, run_with, anchors_of};
 
 use call_log::Written;
-use changes::{Moving, anchor_transition, count_after};
+use changes::{Change, Moving, anchor_transition, count_after};
 use machine::{AnchorEvents, Anchors, terms};
 use records::fields::anchor_at;
 
-// Of the first anchors, up to `end`, those of media n that move go to the state, in id order. (An id below 128 fits a byte.)
+// Of the first anchors, up to `end`, those of the media that move go to the state, in id order. (An id below 128 fits a byte; `try_from`
+// would give a Result, to be unwrapped by the same fact.)
 #[tactic(auto, using(base::specs::Tests::when_true, base::specs::Tests::when_false, base::specs::Loops::ascending_none, base::specs::Loops::ascending_more, base::specs::Loops::ascending_done, crate::proofs::AnchorLaws::anchor_moved_lem), unfolding(machine::specs::Events::anchors_moved, machine::specs::Events::anchor_changed))]
 pub fn move_anchors(
     anchors: &Anchors,
@@ -20,24 +21,22 @@ pub fn move_anchors(
     log: &mut [u8],
     written: &mut Written,
     moving: Moving,
-    aborting: bool,
-    n: usize,
-    state: u8,
+    change: Change,
 )
     requires { end ≤ 128 }
     ensures { (nodes : NodeEvents) (rest : Rest)
         → run_with nodes events.new rest (log_of written.new log.new)
         ≡ anchors_moved (anchors_of end anchors.now.media anchors.now.begins anchors.now.ends)
-        (moves moving) aborting n state
+        (moves moving) change.aborting change.node change.state
         (run_with nodes events.old rest (log_of written.old log.old)) }
 {
     for a in 0..end {
         let anchor = anchor_at(anchors, a);
-        let change = anchor_transition(moving, aborting, n, anchor, events.states[a], state);
-        if change != terms::NO_TRANSITION {
-            events.states[a] = state;
-            events.counts[a] = count_after(change, events.counts[a]);
-            written.emit(log, terms::OF_ANCHOR, a as u8, change);
+        let transition = anchor_transition(moving, change, anchor, events.states[a]);
+        if transition != terms::NO_TRANSITION {
+            events.states[a] = change.state;
+            events.counts[a] = count_after(transition, events.counts[a]);
+            written.emit(log, terms::OF_ANCHOR, a as u8, transition);
         }
     }
 }

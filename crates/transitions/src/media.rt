@@ -11,7 +11,7 @@ ghost use Rattle.transitions.specs.Due.{due_of};
 use super::anchors::move_anchors;
 use super::node::node_to;
 use call_log::Written;
-use changes::{Moving, following, line_first};
+use changes::{Change, Moving, following, line_first};
 use machine::{AnchorEvents, Anchors, NodeEvents, terms};
 use records::tables::next_state;
 
@@ -37,34 +37,18 @@ pub fn move_media(
     if old == new {
         return;
     }
-    let aborting = action == terms::TO_ABORT;
+    let change = Change {
+        node: n,
+        state: new,
+        aborting: action == terms::TO_ABORT,
+    };
     let moving = following(action);
     if line_first(action) {
-        node_to(nodes, log, written, aborting, n, new);
-        move_anchors(
-            anchors,
-            anchors.count,
-            events,
-            log,
-            written,
-            moving,
-            aborting,
-            n,
-            new,
-        );
+        node_to(nodes, log, written, change);
+        move_anchors(anchors, anchors.count, events, log, written, moving, change);
     } else {
-        move_anchors(
-            anchors,
-            anchors.count,
-            events,
-            log,
-            written,
-            moving,
-            aborting,
-            n,
-            new,
-        );
-        node_to(nodes, log, written, aborting, n, new);
+        move_anchors(anchors, anchors.count, events, log, written, moving, change);
+        node_to(nodes, log, written, change);
     }
 }
 
@@ -72,12 +56,13 @@ pub fn move_media(
 // there among the first `beginning`; and whether it stops itself.
 #[derive(Clone, Copy)]
 pub struct Due {
+    pub clock: u16,
     pub ending: usize,
     pub beginning: usize,
     pub stops: bool,
 }
 
-// Media n comes to the clock: its awake anchors that end there stop, those that begin there start, and at its duration it stops
+// Media n comes to a clock: its awake anchors that end there stop, those that begin there start, and at its duration it stops
 // itself.
 pub fn pass_media(
     anchors: &Anchors,
@@ -86,28 +71,29 @@ pub fn pass_media(
     log: &mut [u8],
     written: &mut Written,
     n: usize,
-    clock: u16,
     due: Due,
 )
     requires { (anchors.now.count ≤ 128) × (n < 64) × (due.ending ≤ anchors.now.count) × (due.beginning ≤ anchors.now.count) }
     ensures { (d : Document) (rest : Rest)
         → d.anchors ≡ anchors.now
-        → due ≡ due_of d n clock
+        → due ≡ due_of d n due.clock
         → run_with nodes.new events.new rest (log_of written.new log.new)
-        ≡ passed d n clock
+        ≡ passed d n due.clock
         (run_with nodes.old events.old rest (log_of written.old log.old)) }
 {
-    nodes.clocks[n] = clock;
+    nodes.clocks[n] = due.clock;
     move_anchors(
         anchors,
         due.ending,
         events,
         log,
         written,
-        Moving::EndingAt(clock),
-        false,
-        n,
-        terms::SLEEPING,
+        Moving::EndingAt(due.clock),
+        Change {
+            node: n,
+            state: terms::SLEEPING,
+            aborting: false,
+        },
     );
     move_anchors(
         anchors,
@@ -115,10 +101,12 @@ pub fn pass_media(
         events,
         log,
         written,
-        Moving::BeginningAt(clock),
-        false,
-        n,
-        terms::OCCURRING,
+        Moving::BeginningAt(due.clock),
+        Change {
+            node: n,
+            state: terms::OCCURRING,
+            aborting: false,
+        },
     );
     if due.stops {
         move_media(anchors, nodes, events, log, written, terms::TO_STOP, n);

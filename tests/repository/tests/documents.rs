@@ -93,7 +93,7 @@ fn a_proof_that_is_not_there_is_found() {
         "player: load",
         "transitions: node",
         "events: None.antt",
-        "player: `command` by itself",
+        "engine: `call` by itself",
     ] {
         assert_eq!(missing_proofs(cell, "", &sources).len(), 1, "{cell}");
     }

@@ -31,7 +31,7 @@ pub loop-k-preserved : goal.loop-k-preserved
 unfolding goes_on line_taken
 loop-k-preserved c =
     let more = chain_more c.args.d.now.document _ c.loop-k.k (run c.loop-k.w c.loop-k.log) c.loop-k-test.true (sym c.goes_on.ensures ∙ c.if-not-goes_on.false) (lines_have _ _ _ c.if-w-k.false (omega arith)) in
-    rw (ascending_done _ _ c.args.d.now.document.links.count _ (omega arith) c.loop-l.invariant, c.line_at-x.ensures) (sym more ∙ c.loop-k.invariant)
+    rw (ascending_done _ _ c.args.d.now.document.links.count _ (omega arith) c.loop-l.invariant, c.line_at-x.ensures _ c.if-w-k.false) (sym more ∙ c.loop-k.invariant)
 
 pub returns : goal.returns
 returns c = sym (chain_done _ _ _ _ (omega arith)) ∙ c.loop-k.invariant

@@ -4,7 +4,7 @@ use Rattle.choosing.proofs.ChoiceLaws.{default_chosen, chosen_more, bind_decided
 use Rattle.choosing.proofs.found_children.Goals as goal
 
 pub loop-b-init : goal.loop-b-init
-loop-b-init c = (c.simple_marks-known.ensures, default_chosen _ _ _ _ c.default_children-chosen.ensures)
+loop-b-init c = (c.new-known.ensures, default_chosen _ _ _ _ c.default_children-chosen.ensures)
 
 pub loop-b-preserved : goal.loop-b-preserved
 loop-b-preserved c =

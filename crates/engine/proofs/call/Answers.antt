@@ -12,9 +12,6 @@ pub returns-in-Err : goal.returns-in-Err
 unfolding call_admitting when◌then◌else◌
 returns-in-Err c = rw (c.args.s.now.unbroken, ← (rw c.in-Err.is at c.check_arguments.ensures), numbered _) (c.refuse.ensures _)
 
-pub begin-requires : goal.begin-requires
-begin-requires c = sym (rw c.in_default.is at c.check_arguments.ensures)
-
 pub end-requires : goal.end-requires
 unfolding run_admitting
 end-requires c =

@@ -1,5 +1,5 @@
 -- What the check leaves open of `engine::check_arguments`. Assumes nothing.
-use Rattle.std.proofs.Common.{◌≡◌, refl, sym, Bool, SFits, of_z, to_z, to_z-of_z, rules, w32}
+use Rattle.std.proofs.Common.{◌≡◌, sym, Bool, SFits, of_z, to_z, to_z-of_z, rules, w32}
 use Rattle.base.specs.Tests.{when◌then◌else◌}
 use Rattle.machine.specs.Records.{action_right}
 use Rattle.machine.specs.Operations.{command_fault, argument_fault}
@@ -16,8 +16,8 @@ returns-then-not-action_right c = rw (c.in-Command.is, right c.in-Command.a (sea
 
 pub returns-then-not-target_given : goal.returns-then-not-target_given
 unfolding command_fault argument_fault when◌then◌else◌
-returns-then-not-target_given c = rw (c.in-Command.is, right c.in-Command.a (search rules) c.action_right.ensures, c.if-not-action_right.false, ← c.target_given.ensures c.args.d.now refl refl, c.if-not-target_given.true)
+returns-then-not-target_given c = rw (c.in-Command.is, right c.in-Command.a (search rules) c.action_right.ensures, c.if-not-action_right.false, ← c.target_given.ensures, c.if-not-target_given.true)
 
 pub returns-else-not-target_given : goal.returns-else-not-target_given
 unfolding command_fault argument_fault when◌then◌else◌
-returns-else-not-target_given c = rw (c.in-Command.is, right c.in-Command.a (search rules) c.action_right.ensures, c.if-not-action_right.false, ← c.target_given.ensures c.args.d.now refl refl, c.if-not-target_given.false)
+returns-else-not-target_given c = rw (c.in-Command.is, right c.in-Command.a (search rules) c.action_right.ensures, c.if-not-action_right.false, ← c.target_given.ensures, c.if-not-target_given.false)

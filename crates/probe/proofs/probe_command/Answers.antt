@@ -3,4 +3,4 @@ use Rattle.std.proofs.Common.{◌∙◌, w32, to_z-of_z}
 use Rattle.probe.proofs.probe_command.Goals as goal
 
 pub returns : goal.returns
-returns c = rw (← to_z-of_z {w = w32} c.ranges.value) (c.returned_call.ensures _ ∙ c.command.ensures)
+returns c = rw (← to_z-of_z {w = w32} c.ranges.value) (c.from.ensures _ ∙ c.command.ensures)

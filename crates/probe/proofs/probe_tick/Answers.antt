@@ -3,4 +3,4 @@ use Rattle.std.proofs.Common.{◌∙◌}
 use Rattle.probe.proofs.probe_tick.Goals as goal
 
 pub returns : goal.returns
-returns c = c.returned_call.ensures _ ∙ c.tick.ensures
+returns c = c.from.ensures _ ∙ c.tick.ensures

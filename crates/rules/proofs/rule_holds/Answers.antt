@@ -3,4 +3,4 @@ use Rattle.rules.proofs.Facts.{decided_right}
 use Rattle.rules.proofs.rule_holds.Goals as goal
 
 pub returns : goal.returns
-returns c = (decided_right c.requires.1 c.simple_marks-known.ensures c.requires.0 c.decide.ensures).0
+returns c = (decided_right c.requires.1 c.new.ensures c.requires.0 c.decide.ensures).0

@@ -1,5 +1,5 @@
 -- What the check leaves open of `script_run::finish`. Assumes nothing.
-use Rattle.std.proofs.Common.{rules, refl, sym, ◌∙◌, ap, ℕ, List, take, length, ◌≡◌, eq-eqb, arith, length-take-le}
+use Rattle.std.proofs.Common.{rules, sym, ◌∙◌, ap, ℕ, List, take, length, ◌≡◌, eq-eqb, arith, length-take-le}
 use borrow.Author.Tests.{eqb-true}
 use Rattle.std.proofs.lemmas.Bool.{false≢true}
 use Rattle.machine.specs.Text.{text}
@@ -7,11 +7,8 @@ use Rattle.script_run.specs.Running.{printed_all}
 use Rattle.script_run.proofs.Scripts.{prints_nothing, cut_first}
 use Rattle.script_run.proofs.finish.Goals as goal
 
-pub returns-then-is_empty : goal.returns-then-is_empty
-returns-then-is_empty c = record {
-  front = (omega arith, refl);
-  printed = λ number s. sym (prints_nothing _ (eqb-true _ _ (sym c.is_empty.ensures ∙ c.if-is_empty.true)) number s);
-}
+pub returns-then-is_empty-clause-printed : goal.returns-then-is_empty-clause-printed
+returns-then-is_empty-clause-printed c = λ number s. sym (prints_nothing _ (eqb-true _ _ (sym c.is_empty.ensures ∙ c.if-is_empty.true)) number s)
 
 pub returns-clause-printed : goal.returns-clause-printed
 unfolding text

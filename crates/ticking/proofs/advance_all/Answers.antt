@@ -1,8 +1,7 @@
 -- What the check leaves open of `ticking::advance_all`. Assumes nothing.
 use Rattle.std.proofs.Common.{refl, sym, ◌∙◌, ◌<◌, arith}
-use Rattle.base.specs.Loops.{ascending_none, ascending_more, ascending_done}
-use Rattle.base.specs.Loops.{past_last_most}
-use Rattle.base.specs.Marks.{noted_most}
+use Rattle.base.specs.Loops.{ascending_none, ascending_more}
+use Rattle.base.specs.Marks.{found_most}
 use Rattle.machine.specs.Events.{Run}
 use Rattle.transitions.specs.Lent.{Rest}
 use Rattle.events.specs.Running.{run}
@@ -19,7 +18,7 @@ overflow_add-now c = omega (arith, low_clock _ _ _ (sym c.advances.ensures ∙ c
 pub pass_media-requires : goal.pass_media-requires
 pass_media-requires c =
     let low : c.loop-n.n < 64 = omega (arith, c.args.d.now.sound.nodes.few) in
-    (c.args.d.now.sound.anchors, low, noted_most past_last_most c.past_last_due-ending.ensures _ low, noted_most past_last_most c.past_last_due-beginning.ensures _ low)
+    (c.args.d.now.sound.anchors, low, found_most _ _ _ c.past_last_due-ending.ensures _ low, found_most _ _ _ c.past_last_due-beginning.ensures _ low)
 
 pub loop-n-preserved : goal.loop-n-preserved
 loop-n-preserved c =
@@ -31,6 +30,3 @@ loop-n-preserved c =
       | then-advances w ↦ rw (w.w-is, w.log-is) (ticked_passes _ _ before (sym c.advances.ensures ∙ w.if-advances.true) (w.pass_media.ensures c.args.d.now.document rest refl due))
       | else-advances w ↦ rw (w.w-is, w.log-is) (ticked_not _ _ before (sym c.advances.ensures ∙ w.if-advances.false))
     ])
-
-pub returns : goal.returns
-returns c = ascending_done _ _ _ _ (omega arith) c.loop-n.invariant

@@ -1,13 +1,13 @@
 -- What the check leaves open of `ticking::past_last_due`. Assumes nothing.
 use Rattle.std.proofs.Common.{◌<◌, arith}
 use Rattle.base.specs.Tests.{when◌then◌else◌}
-use Rattle.base.specs.Marks.{noted_none, past_last_turns, noted_done}
+use Rattle.base.specs.Marks.{found_none}
 use Rattle.ticking.proofs.TickLaws.{found_due}
 use Rattle.ticking.proofs.past_last_due.Goals as goal
 use Rattle.ticking.proofs.past_last_due.Goals.{then-is_next, else-is_next}
 
 pub loop-a-init : goal.loop-a-init
-loop-a-init c = noted_none past_last_turns _
+loop-a-init c = found_none _
 
 pub loop-a-preserved : goal.loop-a-preserved
 unfolding when◌then◌else◌
@@ -18,6 +18,3 @@ loop-a-preserved c =
       | then-is_next w ↦ rw w.past-is (rw w.if-is_next.true at due)
       | else-is_next w ↦ rw w.past-is (rw w.if-is_next.false at due)
     ]
-
-pub returns : goal.returns
-returns c = noted_done (omega arith) c.loop-a.invariant

@@ -1,7 +1,7 @@
 -- What the check leaves open of `counts::links::sweep`. Assumes nothing.
 use Rattle.std.proofs.Common.{◌∙◌, arith}
-use Rattle.base.specs.Loops.{every, every_none, passing_most}
-use Rattle.base.specs.Marks.{noted_none, passing_turns, noted_more, noted_most}
+use Rattle.base.specs.Loops.{every, every_none}
+use Rattle.base.specs.Marks.{numbered_none, numbered_more, numbered_most}
 use Rattle.machine.specs.Counts.{is_count_link, is_count_link_of, is_count_link_in, sets_once, unguarded, sets_no_other, owner_outside_switches}
 use Rattle.choices.proofs.PathLaws.{path_unchosen}
 use Rattle.base.specs.Tests.{when_tells}
@@ -9,7 +9,7 @@ use Rattle.counts.proofs.links.sweep.Goals as goal
 
 pub loop-l-init : goal.loop-l-init
 loop-l-init c = record {
-  linked = noted_none passing_turns _;
+  linked = numbered_none _;
   sets_once = every_none _;
   unguarded = every_none _;
   no_other = every_none _;
@@ -18,13 +18,13 @@ loop-l-init c = record {
 
 pub overflow_add-found : goal.overflow_add-found
 overflow_add-found c =
-    let most = noted_most passing_most c.loop-l.invariant.linked c.from-a.result (omega arith) in
+    let most = numbered_most _ _ _ c.loop-l.invariant.linked c.from-a.result (omega arith) in
     grind (arith, most, c.args.d.now.sound.links)
 
 pub loop-l-preserved : goal.loop-l-preserved
 unfolding every is_count_link is_count_link_of is_count_link_in sets_once unguarded sets_no_other owner_outside_switches
 loop-l-preserved c = record {
-  linked = noted_more passing_turns _ _ _ _ c.is_count_link-sets_count.result _ (omega arith)
+  linked = numbered_more _ _ _ _ c.is_count_link-sets_count.result _ (omega arith)
       (λ n. rw (c.from-a.ensures, c.is_count_link-sets_count.ensures, c.times_set-times.ensures)) (grind (arith, when_tells)) c.loop-l.invariant.linked;
   sets_once = grind arith;
   unguarded = grind arith;

@@ -1,11 +1,8 @@
 -- What the check leaves open of `printing::lines::put_lines`. Assumes nothing.
-use Rattle.std.proofs.Common.{◌∙◌, refl, ap, arith, append_assoc, append-nil, length, length-append}
+use Rattle.std.proofs.Common.{◌∙◌, ap, arith, append_assoc, append-nil, length, length-append}
 use Rattle.printing.proofs.LogLines.{groups_from, groups_end}
-use Rattle.printing.proofs.Writings.{then, nothing}
+use Rattle.printing.proofs.Writings.{then}
 use Rattle.printing.proofs.lines.put_lines.Goals as goal
-
-pub loop-class-init : goal.loop-class-init
-loop-class-init c = (_, nothing _ (omega arith), refl)
 
 pub put_line-requires : goal.put_line-requires
 put_line-requires c =

@@ -10,4 +10,4 @@ use Rattle.changes.specs.Moves.{moves}
 use Rattle.transitions.proofs.anchors.move_anchors.Given as goal
 
 abbrev pub invariant-loop-a : goal.invariant-loop-a
-invariant-loop-a l = (nodes : NodeEvents) (rest : Rest) → run_with nodes l.events rest (log_of l.written l.log) ≡ ascending (anchor_moved (anchors_of l.end l.anchors.media l.anchors.begins l.anchors.ends) (moves l.moving) l.aborting l.n l.state) l.a (run_with nodes l.initial.events rest (log_of l.initial.written l.initial.log))
+invariant-loop-a l = (nodes : NodeEvents) (rest : Rest) → run_with nodes l.events rest (log_of l.written l.log) ≡ ascending (anchor_moved (anchors_of l.end l.anchors.media l.anchors.begins l.anchors.ends) (moves l.moving) l.change.aborting l.change.node l.change.state) l.a (run_with nodes l.initial.events rest (log_of l.initial.written l.initial.log))

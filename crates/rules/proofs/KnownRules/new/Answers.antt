@@ -1,9 +1,9 @@
--- What the check leaves open of `rules::simple_marks`. Assumes nothing.
+-- What the check leaves open of `rules::KnownRules::new`. Assumes nothing.
 use native.Mathlib.Omega.{arith}
 use Rattle.rules.proofs.ByKind.{simple}
 use Rattle.rules.proofs.Marks.{nothing_known, simple_known, composite_known}
-use Rattle.rules.proofs.simple_marks.Goals as goal
-use Rattle.rules.proofs.simple_marks.Goals.{then-rules-id-eq-SIMPLE_RULE, else-rules-id-eq-SIMPLE_RULE}
+use Rattle.rules.proofs.KnownRules.new.Goals as goal
+use Rattle.rules.proofs.KnownRules.new.Goals.{then-rules-id-eq-SIMPLE_RULE, else-rules-id-eq-SIMPLE_RULE}
 
 pub loop-id-init : goal.loop-id-init
 loop-id-init c = nothing_known _ _

@@ -1,5 +1,0 @@
--- `rules::decide` calls itself on earlier rules, so the id falls.
-use Rattle.rules.proofs.+decide.Given as goal
-
-abbrev pub decreases-decide : goal.decreases-decide
-decreases-decide l = l.id

@@ -4,13 +4,14 @@ use native.Mathlib.Omega.{arith}
 use native.Mathlib.Numerals.{add-one}
 use mathlib.Core.List.{List, [], ◌∷◌, ◌++◌, append_assoc}
 use mathlib.Core.Path.{◌≡◌, refl, ◌∙◌}
-use lib.ListN.{length, length-append, get_or, take, replicate, get_or-append}
+use lib.ListN.{length, length-append, get_or, take, drop, replicate, get_or-append}
 use lib.Seq.{take-suc, get_or_at}
 use lib.Dec.{ltb}
 use borrow.Rule.Slice.PartMut.{put_mid}
+use Rattle.std.specs.Simd.{first_chunks}
 use Rattle.std.proofs.Common.{rules}
 use Rattle.std.proofs.lemmas.Slice.{overwrites}
-use Rattle.std.proofs.lemmas.List.{places}
+use Rattle.std.proofs.lemmas.List.{places, drop-drop}
 use borrow.Author.Tests.{lt-ltb, le-ltb, ltb-true, ltb-false}
 use Rattle.base.specs.Tests.{when◌then◌else◌, by_test}
 use Rattle.machine.specs.Log.{line, met, logged, bytes_of, slice_with}
@@ -115,9 +116,23 @@ groups_at b (suc n) k z h =
     let q : k ≡ n = omega (arith, ltb-false k n e) in
     rw q (get_or_at (groups b n) (group b n) [] z n (groups_length b n)))
 
-pub line_in : (b : List ℕ) (n k : ℕ) (z : Line) → k < n → k < length b / 4 → get_or (lines_in b n) k z ≡ group b k
+line_in : (b : List ℕ) (n k : ℕ) (z : Line) → k < n → k < length b / 4 → get_or (lines_in b n) k z ≡ group b k
 unfolding lines_in when◌then◌else◌
 line_in b n k z h l = by_test (ltb (length b / 4) n) (λ e. rw e (groups_at b (length b / 4) k z l)) (λ e. rw e (groups_at b n k z h))
+
+-- the groups are those that the library cuts
+groups_cut : (n k : ℕ) (b : List ℕ) → k < n → get_or (first_chunks 4 n b) k [] ≡ take 4 (drop (4 * k) b)
+groups_cut zero k b h = absurd (omega arith)
+groups_cut (suc n) zero b h = refl
+groups_cut (suc n) (suc k) b h =
+    let s : 4 * suc k ≡ 4 + 4 * k = omega arith in
+    rw (s, ← drop-drop (4 * k) 4 b) (groups_cut n k (drop 4 b) (omega arith))
+
+pub line_cut : (b : List ℕ) (n k : ℕ) (z : Line) (bytes : List ℕ) → k < n → k < length b / 4 → bytes ≡ get_or (first_chunks 4 (length b / 4) b) k []
+    → record { class = get_or bytes 0 0; id = get_or bytes 1 0; transition = get_or bytes 2 0; zero = get_or bytes 3 0 } ≡ get_or (lines_in b n) k z
+line_cut b n k z bytes h l e =
+    let first : 4 * k + 0 ≡ 4 * k = omega arith in
+    rw (line_in b n k z h l, e, groups_cut (length b / 4) k b l) (search (rules, places, first))
 
 -- ---- the lines are the bytes written
 

@@ -10,7 +10,8 @@ ghost use Rattle.call_log.specs.LogSlice.{lines_in, log_of};
 use machine::{Line, Refusal};
 
 // What is written of a call's log: so many lines; and what stops the call, nothing or the refusal that was met first.
-// The slice is lent beside it: held in here it would give a lifetime to this and to all that have one, and would be no plainer.
+// The slice is lent beside it: held in here it would give a lifetime to this and to all that have one, and each function lent a `Work` would
+// have to promise that it is still the same slice, as `Adds` of printing does with `same_slice`.
 #[derive(Clone, Copy)]
 pub struct Written {
     pub lines: usize,
@@ -50,17 +51,17 @@ impl Written {
 }
 
 // Line k of the slice: where more lines than k are written, that of the log.
-#[tactic(auto, using(crate::proofs::LogLaws::line_in))]
+#[tactic(auto, using(crate::proofs::LogLaws::line_cut))]
 pub fn line_at(log: &[u8], k: usize) -> Line
     requires { k < length log.now / 4 }
     ensures { (lines : ℕ) → k < lines → result ≡ get_or (lines_in log.now lines) k (line 0 0 0) }
 {
-    let p = 4 * k;
+    let [class, id, transition, zero] = log.as_chunks::<4>().0[k];
     Line {
-        class: log[p],
-        id: log[p + 1],
-        transition: log[p + 2],
-        zero: log[p + 3],
+        class,
+        id,
+        transition,
+        zero,
     }
 }
 

@@ -1,4 +1,6 @@
-// The check for report authors: whether a document shows the counts of a media in a property, and the count of an anchor.
+// The check for report authors: whether a document shows the counts of a media in a property, and the count of an anchor. Document, media and
+// property are handed on one by one: all but two functions look at a media alone or at a property alone, and a struct of the three would hand
+// each what it does not look at. Nor has `linked` a struct with what it counts, which would have to lend the document and the property.
 #![tactic(auto)]
 
 mod anchors;

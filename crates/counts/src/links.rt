@@ -93,7 +93,7 @@ pub fn sweep(d: &SoundDocument, m: u8, property: u8) -> Findings
 }
 
 // ---- the count of an anchor: the first link that sets it, and its first action that does; the number past them where there is none, as the
-// definition's search gives (an Option would be unwrapped at once: a count is asked only where both are there)
+// definition's search gives: loops, since the Option of `position` would be unwrapped at once; a count is asked only where both are there
 
 #[tactic(auto, unfolding(machine::specs::Counts::is_count_link_of, machine::specs::Counts::is_count_link))]
 fn is_count_link_of(d: &SoundDocument, property: u8, anchor: u8, link: usize) -> bool

@@ -4,7 +4,7 @@ use Prim.Native.Nat.{ℕ, zero, suc, ◌+◌, ◌-◌, ◌*◌, ◌<◌, ◌≤�
 use mathlib.Core.Bool.{false, not, ◌&&◌}
 use mathlib.Core.List.{List, [], ◌∷◌, ◌++◌}
 use mathlib.Core.Path.{◌≡◌, refl, sym, ap, ◌∙◌}
-use Rattle.std.specs.Prelude.{Ok}
+use Rattle.std.specs.Prelude.{Ok, ⊤}
 use native.Mathlib.Nat.{le_refl, mul-suc, mul-le-mul_left}
 use native.Mathlib.Omega.{arith}
 use lib.ListN.{length, take, drop, take-append-drop, length-append, length-drop, length-set, get_or-eq_default}
@@ -18,7 +18,7 @@ use Rattle.machine.specs.Records.{greatest_kind, body_length, node_fault, anchor
 use Rattle.machine.specs.Load.{OrFault, good, faulty, and_then, cut_at, cut, checked, records_entered, place_fault, LoadResult, finished, load}
 use Rattle.machine.specs.Broken.{broken}
 use Rattle.machine.specs.declared.Links.{Links}
-use Rattle.machine.specs.declared.Loaded.{Loaded}
+use Rattle.machine.specs.declared.Outcome.{Outcome}
 use Rattle.machine.specs.declared.Document.{Document}
 use Rattle.machine.specs.declared.Session.{Session}
 use Rattle.machine.specs.declared.Record.{Record}
@@ -199,7 +199,7 @@ load_front n h bytes =
     (λ e. ap load (take_all n bytes (omega (arith, leb-false n (length bytes) e))))
 
 -- the session of a document that is accepted is not broken
-pub loaded_unbroken : (loaded : Loaded) (bytes : List ℕ) → load_result loaded ≡ load bytes → loaded.answer ≡ Ok tt → broken loaded.session ≡ false
+pub loaded_unbroken : (loaded : Outcome ⊤) (bytes : List ℕ) → load_result loaded ≡ load bytes → loaded.answer ≡ Ok tt → broken loaded.session ≡ false
 loaded_unbroken loaded bytes e accepted =
     let none : (load bytes).answer.refusal ≡ 0 = ap (λ (r : LoadResult). r.answer.refusal) (sym e) ∙ rw accepted in
     let same : loaded.session ≡ (load bytes).session = ap (λ (r : LoadResult). r.session) e in

@@ -91,7 +91,7 @@ fn link_ends_zero(links: &Links) -> bool
 }
 
 // ---- the actions of the links, in 8 places for each: no loop over the targets and values looks at the links, so that many places are looked
-// at at once
+// at at once. Counts, actions and a column are lent alone, since nothing else is looked at, and what is promised is of every table that has them.
 
 // No action stands in the places of a link past so many.
 #[tactic(auto, unfolding(crate::specs::Places::unused_zero, base::specs::Loops::every))]
@@ -189,6 +189,7 @@ fn property_events_end_zero(properties: usize, events: &PropertyEvents) -> bool
     zero_from(&events.values, properties, 0) & zero_from(&events.counts, properties, 0)
 }
 
+// A document and a state, as in `state_check`.
 #[tactic(auto, unfolding(machine::specs::Broken::state_ends_zero))]
 pub fn state_ends_zero(d: &Document, s: &State) -> bool
     ensures { result ≡ state_ends_zero d.now s.now }

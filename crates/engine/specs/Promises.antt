@@ -4,11 +4,11 @@ use Rattle.machine.specs.Answers.{call_answer}
 use Rattle.machine.specs.Operations.{CallResult}
 use Rattle.machine.specs.declared.Refusal.{Refusal}
 use Rattle.machine.specs.declared.Session.{Session}
-use Rattle.machine.specs.declared.Called.{Called}
+use Rattle.machine.specs.declared.Outcome.{Outcome}
 
 -- of a call that changes its session in place
 abbrev pub called_result : Result ℕ Refusal → Session → List ℕ → CallResult
 called_result answer session bytes = record { answer = call_answer answer; session = session; log = bytes }
 
-abbrev pub call_result : Called → List ℕ → CallResult
+abbrev pub call_result : Outcome ℕ → List ℕ → CallResult
 call_result r bytes = called_result r.answer r.session bytes

@@ -1,6 +1,6 @@
 -- The states of the children, gathered on the way down the ids: where node k is come to, its children have been passed.
 use mathlib.Core.Path.{◌≡◌, refl, sym, ◌∙◌}
-use mathlib.Core.Bool.{Bool, true, false, ◌||◌, false≢true}
+use mathlib.Core.Bool.{Bool, true, false, ◌||◌, or-false, or_assoc, false≢true}
 use mathlib.Core.List.{List}
 use Prim.Native.Nat.{ℕ, zero, suc, ◌+◌, ◌-◌, ◌≤◌, ◌<◌}
 use native.Mathlib.Numerals.{add-one}
@@ -24,22 +24,14 @@ some_from : (ℕ → Bool) → ℕ → ℕ → Bool
 some_from test zero i = false
 some_from test (suc k) i = test i || some_from test k (i + 1)
 
-or_assoc : (a b c : Bool) → a || (b || c) ≡ (a || b) || c
-or_assoc true b c = refl
-or_assoc false b c = refl
-
-or_none : (a : Bool) → a ≡ a || false
-or_none true = refl
-or_none false = refl
-
 -- those below i, and those from i on
 some_from_lem : (test : ℕ → Bool) (n k i : ℕ) → i + k ≡ n → some test n ≡ some test i || some_from test k i
 unfolding some some_from
 some_from_lem test n zero i e =
     let s : n ≡ i = omega arith in
-    rw s (or_none _)
+    rw s (sym (or-false _))
 some_from_lem test n (suc k) i e =
-    some_from_lem test n k (i + 1) (omega arith) ∙ rw add-one (sym (or_assoc (some test i) (test i) _))
+    some_from_lem test n k (i + 1) (omega arith) ∙ rw add-one (or_assoc (some test i) (test i) _)
 
 some_none : (test : ℕ → Bool) (n : ℕ) → ((i : ℕ) → i < n → test i ≡ false) → some test n ≡ false
 unfolding some

@@ -15,7 +15,8 @@ ghost use Rattle.events.specs.Running.{run};
 use call_log::Written;
 use machine::State;
 
-// What of a session changes, while a call runs; with what is written of its log, and the firings.
+// What of a session changes, while a call runs; with what is written of its log, and the firings. The document and the log slice are lent
+// beside it: held in here, each function lent a `Work` would have to promise that both are still the same (see `call_log::Written`).
 #[derive(Clone, Copy)]
 pub struct Work {
     pub state: State,

@@ -1,5 +1,4 @@
-// An action on several media: those of a queue, or all below a target. The action is a byte that was asked before, as `next_state` says; what
-// is asked of nodes is of their table alone, since a sound document would ask more of callers.
+// An action on several media: those of a queue, or all below a target. The action is a byte, as `next_state` says.
 ghost use Rattle.std.specs.Prelude.{◌≡◌, ◌&&◌, ◌<◌, ◌≤◌};
 ghost use Rattle.machine.specs.Terms.{to_start, to_resume};
 ghost use Rattle.machine.specs.Tables.{is_media};
@@ -34,7 +33,8 @@ pub fn move_each(anchors: &Anchors, w: &mut Work, log: &mut [u8], action: u8, qu
     }
 }
 
-// Whether node n is the target or lies below it: a walk up by parents, which passes no table in order.
+// Whether node n is the target or lies below it: a walk up by parents, which passes no table in order. Asked of the nodes alone, since
+// `settle`, which asks this too, has no more.
 #[tactic(auto, using(crate::proofs::BelowLaws::leads_end, crate::proofs::BelowLaws::leads_more))]
 pub fn is_below(nodes: &Nodes, target: usize, n: usize) -> bool
     requires { SoundNodes nodes.now × (n < nodes.now.count) }
@@ -48,10 +48,11 @@ pub fn is_below(nodes: &Nodes, target: usize, n: usize) -> bool
 }
 
 // Whether node n is a media, and the target or below it.
-fn is_media_below(nodes: &Nodes, target: usize, n: usize) -> bool
-    requires { SoundNodes nodes.now × (n < nodes.now.count) }
-    ensures { result ≡ (is_media nodes.now n && is_below nodes.now target n) }
+fn is_media_below(d: &SoundDocument, target: usize, n: usize) -> bool
+    requires { n < d.now.document.nodes.count }
+    ensures { result ≡ (is_media d.now.document.nodes n && is_below d.now.document.nodes target n) }
 {
+    let nodes = &d.document.nodes;
     nodes.types[n] == terms::MEDIA && is_below(nodes, target, n)
 }
 
@@ -63,7 +64,7 @@ pub fn move_all(d: &SoundDocument, w: &mut Work, log: &mut [u8], action: u8, tar
 {
     let document = &d.document;
     for n in 0..document.nodes.count {
-        if is_media_below(&document.nodes, target, n) {
+        if is_media_below(d, target, n) {
             move_media(
                 &document.anchors,
                 &mut w.state.nodes,

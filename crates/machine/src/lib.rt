@@ -11,7 +11,8 @@ ghost use Rattle.std.specs.Prelude.{◌≡◌};
 ghost use Rattle.machine.specs.Answers.{number_of, condition_number};
 
 // ---- the tables of a document: entry i of each array belongs to id i. No count has an invariant, since anybody may write one; who needs a
-// bound asks for it. Ids are numbers: a type of those below a count would have to lend the document whose count it is to each id.
+// bound asks for it. Ids are numbers: a type of those below a count would have to lend the document whose count it is to each id; and one of
+// those below 64, 32 or 128 would be made in every loop and of every byte of a column, and undone at each column that it indexes.
 
 // Types: 0 context, 1 media, 2 switch.
 #[repr(C)]
@@ -278,19 +279,17 @@ impl From<Refusal> for u8 {
     }
 }
 
-// Two words for a session with an answer; one generic over the answer would say no more.
+// An answer, with the session after it.
 #[derive(Clone, Copy)]
-pub struct Loaded {
-    pub answer: Result<(), Refusal>,
+pub struct Outcome<T> {
+    pub answer: Result<T, Refusal>,
     pub session: Session,
 }
 
+pub type Loaded = Outcome<()>;
+
 // An accepted call returns its firings.
-#[derive(Clone, Copy)]
-pub struct Called {
-    pub answer: Result<u8, Refusal>,
-    pub session: Session,
-}
+pub type Called = Outcome<u8>;
 
 // What a read gives: a node and an anchor have the value 0, a property the state 0, as 01 says.
 #[derive(Clone, Copy)]

@@ -2,7 +2,7 @@
 use Prim.Native.Nat.{ℕ, ◌≤◌}
 use mathlib.Core.List.{List, ◌++◌}
 use mathlib.Core.Path.{◌≡◌, refl, sym, ◌∙◌}
-use lib.ListN.{length, take, drop, take-append-drop}
+use lib.ListN.{take, drop, take-append-drop}
 use lib.Seq.{take-take}
 use Rattle.machine.specs.declared.Session.{Session}
 use Rattle.script_run.specs.Running.{GoesOn, Stopped, Ran}
@@ -13,9 +13,8 @@ use Rattle.script_run.proofs.Scripts.{run_on, read_on}
 use Rattle.printed_run.specs.Held.{HeldMore, Reached}
 
 -- bytes were read behind those that are held
-pub more_held : (held n : ℕ) (before after : List ℕ) → held ≤ n → n ≤ length after → take held after ≡ take held before → HeldMore (take held before) after n
-more_held held n before after h k same = record {
-  inside = k;
+pub more_held : (held n : ℕ) (before after : List ℕ) → held ≤ n → take held after ≡ take held before → HeldMore (take held before) (take n after)
+more_held held n before after h same = record {
   more = drop held (take n after);
   begins = sym (take-append-drop held (take n after)) ∙ rw (take-take held n after h, same);
 }

@@ -1,18 +1,17 @@
 -- How a script goes on from part to part: the bytes that were read and are not run yet, the session and the number.
-use Rattle.std.specs.Prelude.{ℕ, ◌≤◌, List, ◌++◌, ◌≡◌, length, take, Option, IfSome}
+use Rattle.std.specs.Prelude.{ℕ, List, ◌++◌, ◌≡◌, Option, IfSome}
 use Rattle.machine.specs.declared.Session.{Session}
 use Rattle.script_run.specs.Running.{GoesOn}
 use Rattle.script_run.specs.declared.Part.{Part}
 
--- so many bytes at the front of a slice: those that were left of the last part, and more behind them
-pub record HeldMore (left bytes : List ℕ) (n : ℕ) : Type 0 where
-  pub inside : n ≤ length bytes
+-- the bytes that are held are those that were left of the last part, and more behind them
+pub record HeldMore (left held : List ℕ) : Type 0 where
   pub more : List ℕ
-  pub begins : take n bytes ≡ left ++ more
+  pub begins : held ≡ left ++ more
 
--- so many, if the run goes on
-abbrev pub HeldNext : (left bytes : List ℕ) → Option ℕ → Type 0
-HeldNext left bytes next = IfSome next (HeldMore left bytes)
+-- so it is, if the run goes on
+abbrev pub HeldNext : (left held : List ℕ) → Option (Unit {0}) → Type 0
+HeldNext left held next = IfSome next (λ _. HeldMore left held)
 
 -- the session and the number after a part are those to which some bytes of a script lead from the first session, with what they print,
 -- where these bytes are left

@@ -3,13 +3,14 @@
 // What is printed is made by the libraries `script_run` and `printing`. Here files are read, and lines go to standard output.
 #![tactic(auto)]
 
-ghost use Rattle.std.specs.Prelude.{false, ◌≡◌, List, ℕ, ◌≤◌, length, take, None, Ok, IfSome, IfOk};
+ghost use Rattle.std.specs.Prelude.{false, ◌≡◌, List, ℕ, ◌+◌, ◌≤◌, length, take, None, Ok, IfSome, IfOk};
 ghost use Rattle.std.proofs.Math.Seq.{slice};
 ghost use Rattle.machine.specs.Broken.{broken};
 ghost use Rattle.machine.specs.Sessions.{session_of};
 ghost use Rattle.printing.specs.Script.{script_record};
 ghost use Rattle.printing.specs.Writing.{Front};
 ghost use Rattle.printed_run.specs.Held.{HeldNext, Reached};
+ghost use Rattle.printed_run.specs.declared.TheConstants.{PART_BYTES};
 
 use document_front::DECIDING_BYTES;
 use machine::Loaded;
@@ -47,90 +48,90 @@ fn or_fail<T>(rt: &impl Eprint, what: &str, outcome: io::Result<T>) -> Option<T>
     }
 }
 
-// Whether all was written.
-fn print<R: Print + Eprint>(rt: &R, line: &[u8]) -> bool {
-    or_fail(rt, "standard output", rt.write_all(line)).is_some()
+// None if not all was written.
+fn print<R: Print + Eprint>(rt: &R, line: &[u8]) -> Option<()> {
+    or_fail(rt, "standard output", rt.write_all(line))
 }
 
-// ---- the script: `rt`, the script, `part` and `out` are lent from function to function, and in no struct, which would be made anew for each
-// call; `held` says how much of `part` is filled. That these bytes are a cut record is asked three times, and by `script_run::finish`: it is
-// a fact of what `part` holds at that moment. A type that says it would lend `part` away, which is read into next.
+// ---- the script
 
-// One read, of as many bytes as it gives: none at the end of the script.
-fn read_script(rt: &impl Eprint, script: &mut impl Read, part: &mut [u8]) -> Option<usize>
-    ensures { IfSome result (λ n. n ≤ length part.new) }
-{
-    or_fail(rt, "script", script.read(part))
-}
-
-// The end of a script, of which these bytes are left.
-fn end_script<R: Print + Eprint>(rt: &R, left: &[u8], out: &mut [u8; OUT_BYTES])
-    requires { script_record left.now ≡ ScriptRecord.Cut }
-{
-    let filled = script_run::finish(left, &mut *out);
-    print(rt, &out[..filled]);
-}
-
-// Reads more of the script behind the bytes that are held, a cut record or none; where there is no more, the script ends with them.
-// Answers how many bytes are held then, which are to be run next; None if the run ends.
-fn read_on<R: Print + Eprint>(
-    rt: &R,
-    script: &mut impl Read,
-    part: &mut [u8; PART_BYTES],
+// The script as far as it was read: so many bytes of `part` as `held` says are still to be run, since memory is fixed. That they are a cut
+// record, or none, is known only where a part stopped for one (`Stop::Cut`): it is asked there, and no fact of the struct. `rt`, the log and
+// `out` are lent beside it: nothing in them is kept from part to part.
+#[derive(Drop)]
+struct Script {
+    file: File,
+    part: [u8; PART_BYTES],
     held: usize,
-    out: &mut [u8; OUT_BYTES],
-) -> Option<usize>
-    requires { (held ≤ length part.old) × (script_record (take held part.old) ≡ ScriptRecord.Cut) }
-    ensures { HeldNext (take held part.old) part.new result }
-{
-    let n = read_script(rt, script, &mut part[held..])?;
-    if n == 0 {
-        end_script(rt, &part[..held], out);
-        return None;
-    }
-    Some(held + n)
+    ghost within: { held ≤ PART_BYTES },
 }
 
-// After a part of the script of so many bytes was run: writes its lines, and reads on where all its whole records are run. Answers as
-// `read_on` does.
-fn go_on<R: Print + Eprint>(
-    rt: &R,
-    script: &mut impl Read,
-    part: &mut [u8; PART_BYTES],
-    held: usize,
-    ran: Part,
-    out: &mut [u8; OUT_BYTES],
-) -> Option<usize>
-    requires { (ran.used ≤ held) × (held ≤ length part.old) × Front ran.filled out.old
-        × (ran.stop ≡ Stop.Cut → script_record (slice ran.used held part.old) ≡ ScriptRecord.Cut) }
-    ensures held { HeldNext (slice ran.used held part.old) part.new result }
-    ensures ended { ran.stop ≡ Stop.Ended → result ≡ None }
-{
-    if !print(rt, &out[..ran.filled]) {
-        return None;
+impl Script {
+    // One read, behind the bytes that are held. Answers how many bytes it gave: none at the end of the script.
+    fn read(&mut self, rt: &impl Eprint) -> Option<usize>
+        ensures { IfSome result (λ n. (self.new.held ≡ self.old.held + n)
+            × (take self.old.held self.new.part ≡ take self.old.held self.old.part)) }
+    {
+        let n = or_fail(rt, "script", self.file.read(&mut self.part[self.held..]))?;
+        self.held += n;
+        Some(n)
     }
-    let left = script_run::to_front(&mut *part, ran.used, held);
-    match ran.stop {
-        Stop::Full => Some(left),
-        Stop::Cut => read_on(rt, script, part, left, out),
-        Stop::Ended => None,
+
+    // The end of the script, of which the bytes that are held are left.
+    fn end<R: Print + Eprint>(&self, rt: &R, out: &mut [u8; OUT_BYTES])
+        requires { script_record (take self.now.held self.now.part) ≡ ScriptRecord.Cut }
+    {
+        let filled = script_run::finish(&self.part[..self.held], &mut *out);
+        print(rt, &out[..filled]);
+    }
+
+    // Reads more of the script behind the bytes that are held, a cut record or none; where there is no more, the script ends with them.
+    // None if the run ends.
+    #[tactic(auto, using(crate::proofs::Parts::more_held))]
+    fn read_on<R: Print + Eprint>(&mut self, rt: &R, out: &mut [u8; OUT_BYTES]) -> Option<()>
+        requires { script_record (take self.old.held self.old.part) ≡ ScriptRecord.Cut }
+        ensures { HeldNext (take self.old.held self.old.part) (take self.new.held self.new.part) result }
+    {
+        if self.read(rt)? == 0 {
+            self.end(rt, out);
+            return None;
+        }
+        Some(())
+    }
+
+    // After a part of the script was run: writes its lines, and reads on where all its whole records are run. None if the run ends.
+    fn go_on<R: Print + Eprint>(
+        &mut self,
+        rt: &R,
+        ran: Part,
+        out: &mut [u8; OUT_BYTES],
+    ) -> Option<()>
+        requires { (ran.used ≤ self.old.held) × Front ran.filled out.old
+            × (ran.stop ≡ Stop.Cut → script_record (slice ran.used self.old.held self.old.part) ≡ ScriptRecord.Cut) }
+        ensures held { HeldNext (slice ran.used self.old.held self.old.part) (take self.new.held self.new.part) result }
+        ensures ended { ran.stop ≡ Stop.Ended → result ≡ None }
+    {
+        print(rt, &out[..ran.filled])?;
+        self.held = script_run::to_front(&mut self.part, ran.used, self.held);
+        match ran.stop {
+            Stop::Full => Some(()),
+            Stop::Cut => self.read_on(rt, out),
+            Stop::Ended => None,
+        }
     }
 }
 
-// The first bytes of the script are in `part`, so many as `first` says. All lines are written before more of the script is read: whoever
-// feeds it through a pipe sees the lines of what has been read. Answers the last part.
+// The first bytes of the script are held. All lines are written before more of the script is read: whoever feeds it through a pipe sees
+// the lines of what has been read. Answers the last part.
 fn run_script<R: Print + Eprint>(
     rt: &R,
     session: &mut UnbrokenSession,
-    script: &mut impl Read,
-    part: &mut [u8; PART_BYTES],
-    first: usize,
+    script: &mut Script,
     log: &mut [u8; LOG_BYTES],
     out: &mut [u8; OUT_BYTES],
 ) -> Part
     ensures { (result.stop ≡ Stop.Ended → ⊥) → (left : List ℕ) × Reached (session_of session.old) (session_of session.new) result left }
 {
-    let mut held = first.min(part.len());
     // Nothing is run yet.
     let mut ran = Part {
         number: 1,
@@ -142,19 +143,21 @@ fn run_script<R: Print + Eprint>(
         ran = script_run::run_part(
             &mut *session,
             ran.number,
-            &part[..held],
+            &script.part[..script.held],
             &mut *log,
             &mut *out,
         );
-        match go_on(rt, &mut *script, &mut *part, held, ran, &mut *out) {
-            Some(n) => held = n,
-            None => return ran,
-        }
+        let Some(()) = script.go_on(rt, ran, &mut *out) else {
+            return ran;
+        };
     }
     ran
 }
 
 // ---- files
+
+// That no more bytes are read than there is room for goes up through three functions to its one use, `load_front`; a struct that says it would
+// be taken apart there.
 
 // The file's bytes, as many as fit. (A while: how many bytes one read gives is not known.)
 fn read_start(file: &mut impl Read, bytes: &mut [u8]) -> io::Result<usize>
@@ -187,9 +190,7 @@ fn read_document<R: Files + Eprint>(rt: &R, document: &mut [u8]) -> Option<usize
 fn run_document<R: Print + Eprint>(
     rt: &R,
     loaded: Loaded,
-    script: &mut impl Read,
-    part: &mut [u8; PART_BYTES],
-    first: usize,
+    script: &mut Script,
     log: &mut [u8; LOG_BYTES],
     out: &mut [u8; OUT_BYTES],
 )
@@ -198,7 +199,7 @@ fn run_document<R: Print + Eprint>(
     match loaded.answer {
         Ok(()) => {
             let mut session = UnbrokenSession::new(loaded.session);
-            run_script(rt, &mut session, script, part, first, log, out);
+            run_script(rt, &mut session, script, log, out);
         }
         Err(refusal) => {
             let mut line = [0u8; 8];
@@ -215,23 +216,19 @@ fn main(rt: HostRuntime) {
     let Some(filled) = read_document(&rt, &mut document) else {
         return;
     };
-    let Some(mut script) = or_fail(&rt, "script", File::open(&rt, "script")) else {
+    let Some(file) = or_fail(&rt, "script", File::open(&rt, "script")) else {
         return;
     };
-    let mut part = [0u8; PART_BYTES];
-    let Some(first) = read_script(&rt, &mut script, &mut part) else {
+    let mut script = Script {
+        file,
+        part: [0u8; PART_BYTES],
+        held: 0,
+    };
+    let Some(_) = script.read(&rt) else {
         return;
     };
     let mut log = [0u8; LOG_BYTES];
     let mut out = [0u8; OUT_BYTES];
     let loaded = document_front::load_front(&document, filled);
-    run_document(
-        &rt,
-        loaded,
-        &mut script,
-        &mut part,
-        first,
-        &mut log,
-        &mut out,
-    );
+    run_document(&rt, loaded, &mut script, &mut log, &mut out);
 }

@@ -1,6 +1,5 @@
 -- The lines of a log as its groups of four bytes.
-use Rattle.std.proofs.Common.{◌≡◌, ◌∙◌, sym, ap, ℕ, zero, suc, ◌+◌, ◌/◌, ◌<◌, ◌≤◌, get_or, drop, add-one, drop-cons, List, [], ◌∷◌, ◌++◌, refl, true, append_assoc, arith, length, map, take}
-use Rattle.std.proofs.lemmas.List.{drop_all}
+use Rattle.std.proofs.Common.{◌≡◌, ◌∙◌, sym, ap, ℕ, zero, suc, ◌+◌, ◌/◌, List, [], ◌∷◌, ◌++◌, refl, true, append_assoc, arith, length, map, take}
 use borrow.Author.Tests.{ne_eqb}
 use Rattle.std.specs.List.{prefix_len}
 use Rattle.std.specs.Simd.{first_chunks}
@@ -32,13 +31,3 @@ pub printed_as_groups : (ls : List Line) → groups_text (map group_of ls) ≡ p
 unfolding groups_text printed_lines
 printed_as_groups [] = refl
 printed_as_groups (l ∷ ls) = rw (printed_as_groups ls) (sym (lines_cons l ls))
-
--- what is printed of the groups from a place on
-pub groups_from : (groups : List (List ℕ)) (i : ℕ) → i < length groups
-    → groups_text (drop i groups) ≡ line_text (get_or (get_or groups i []) 0 0) (get_or (get_or groups i []) 1 0) (get_or (get_or groups i []) 2 0) ++ groups_text (drop (i + 1) groups)
-unfolding groups_text
-groups_from groups i h = rw (add-one, drop-cons groups i [])
-
-pub groups_end : (groups : List (List ℕ)) (i : ℕ) → length groups ≤ i → groups_text (drop i groups) ≡ []
-unfolding groups_text
-groups_end groups i h = rw (drop_all i groups h)

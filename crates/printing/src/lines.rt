@@ -1,4 +1,5 @@
-// The lines of the printed run: one for each call, or one for a document that is refused.
+// The lines of the printed run: one for each call, or one for a document that is refused. What prints them is no `Display`, nor written by
+// `write!`, since it cannot fail (see `Text::put_decimal`).
 ghost use Rattle.std.specs.Prelude.{◌≡◌, ◌++◌, map, length};
 ghost use Rattle.std.specs.List.{prefix_len};
 ghost use Rattle.machine.specs.Answers.{number_of, call_answer};

@@ -53,7 +53,8 @@ impl<'a> Text<'a> {
         self.filled = end;
     }
 
-    // The decimal digits of a number, byte by byte as `Text.decimal` has them; what `Display` writes is promised by no such words.
+    // The decimal digits of a number, byte by byte as `Text.decimal` has them. Not by `Display`: `fmt` promises what it wrote only where it
+    // answers Ok, and nothing says that it does, while this cannot fail; nor by another library, since the crates use `std` alone (README).
     pub(crate) fn put_decimal(&mut self, n: u64)
         requires { HasRoom (length (decimal n)) self.old }
         ensures { Adds (decimal n) self.old self.new }

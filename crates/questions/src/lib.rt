@@ -92,6 +92,7 @@ pub fn count_of(s: &UnbrokenSession, anchor: u8, property: u8) -> CountAnswer
         return Err(Refusal::NoSuchId);
     }
     let media = d.anchors.media[usize::from(anchor)];
+    // `map` would take a closure, which would not know that the counts are shown, and `?` a function of its own for one arm.
     Ok(match counts::first_failing(&s.document, media, property) {
         Ok(()) => Ok(counts::count_of(&s.document, property, anchor)),
         Err(condition) => Err(condition),

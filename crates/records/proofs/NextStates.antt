@@ -1,16 +1,11 @@
 -- The constant table of next states is the definition's: at the three states and five actions, and past them the state stays.
 use mathlib.Core.Path.{◌≡◌, refl}
-use mathlib.Core.List.{List, [], ◌∷◌}
+use mathlib.Core.List.{[]}
 use Prim.Native.Nat.{ℕ, zero, suc, ◌-◌, ◌<◌}
 use native.Mathlib.Omega.{arith}
 use lib.ListN.{length, get_or}
+use Rattle.std.proofs.lemmas.List.{get_or_default}
 use Rattle.machine.specs.Events.{next_states, next_state}
-
--- within a list the default does not matter
-pub default : {A : Type 0} (l : List A) (k : ℕ) (d e : A) → k < length l → get_or l k d ≡ get_or l k e
-default [] k d e h = absurd (omega arith)
-default (x ∷ l) zero d e h = refl
-default (x ∷ l) (suc k) d e h = default l k d e (omega arith)
 
 pub no_row : (state action : ℕ) → 2 < state → state ≡ next_state state action
 unfolding next_state
@@ -27,4 +22,4 @@ rows (suc (suc (suc s))) h = absurd (omega arith)
 
 pub in_row : (state action : ℕ) → state < 3 → action - 1 < 5 → get_or (get_or next_states state []) (action - 1) 0 ≡ next_state state action
 unfolding next_state
-in_row state action h k = default (get_or next_states state []) (action - 1) 0 state (omega (arith, rows state h))
+in_row state action h k = get_or_default (get_or next_states state []) (action - 1) 0 state (omega (arith, rows state h))

@@ -99,7 +99,8 @@ fn link_of(body: &[u8]) -> LinkRecord
     }
 }
 
-// The record of a kind, a byte of a document, and a body. Only the kinds of rules are asked elsewhere, and have names.
+// The record of a kind and a body. Kinds are numbers: an enum of them would be matched once to be made and once more here (`Record` is that
+// enum), and `body_length` takes any number. Only the kinds of rules are asked elsewhere, and have names.
 #[tactic(auto, using(base::specs::Tests::tests), unfolding(machine::specs::Records::record_of))]
 fn record_of(kind: u8, body: &[u8]) -> Record
     ensures { result ≡ record_of kind body.now }

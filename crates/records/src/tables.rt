@@ -7,7 +7,7 @@ ghost use Rattle.machine.specs.Events.{next_state};
 use crate::fields::byte_at;
 use machine::terms::{OCCURRING, PAUSED, SLEEPING};
 
-// Kinds are 0 to 9. Bytes of a document, in which any may stand.
+// Kinds are 0 to 9: numbers, as `record_of` says.
 pub const GREATEST_KIND: u8 = 9;
 
 // The length of a record's body, by its kind.
@@ -27,7 +27,8 @@ pub fn body_length(kind: usize) -> usize
     usize::from(byte_at(&BODY_LENGTHS, kind))
 }
 
-// The action is a byte that was asked before; an enum of the five would be turned back into the column here.
+// The action is a byte: it comes from links and commands and goes on to the cause of settling. An enum of the five would be made of it
+// in `events::acting::perform` alone, by a match of its own, and turned back into the column here.
 #[tactic(auto, using(crate::proofs::NextStates::no_row, crate::proofs::NextStates::in_row))]
 pub fn next_state(state: u8, action: u8) -> u8
     requires { (to_start ≤ action) × (action ≤ to_resume) }

@@ -1,6 +1,6 @@
 // Whether rules hold. A composite rule is decided by deciding its two earlier rules, each composite rule once. What is required is of the
 // rules alone: a sound document would ask more of callers; and the values of properties are lent alone, so that it is said of
-// every state that has them.
+// every state that has them. No struct lends both, since it would be made anew for each guard and each start.
 #![tactic(auto)]
 
 ghost use Rattle.std.specs.Prelude.{◌≡◌, ◌<◌, pos, get_or, length};
@@ -44,11 +44,12 @@ fn simple_rule_holds(rules: &Rules, values: &[i32; 32], id: usize) -> bool
     compare(rules.comparators[id], x, y)
 }
 
-// What is known of rules on some values, while they are decided: of each, by id, whether it holds, where it is decided.
+// What is known of rules on some values, while they are decided: of each, by id, whether it holds, where it is decided. The fields are
+// public: who knows this in another way than by `new` may ask `decide` too.
 #[derive(Drop)]
 pub struct KnownRules<'a> {
-    rules: &'a Rules,
-    known: [Option<bool>; 32],
+    pub rules: &'a Rules,
+    pub known: [Option<bool>; 32],
 }
 
 impl<'a> KnownRules<'a> {

@@ -1,12 +1,15 @@
 -- Laws of the queue: it has room for one media more, and the run that it makes then is the start of that media on the one that it made before.
 use mathlib.Core.Path.{◌≡◌, refl, ap, ◌∙◌}
 use mathlib.Core.Bool.{Bool}
-use mathlib.Core.List.{List, [], ◌∷◌}
-use Prim.Native.Nat.{ℕ, zero, suc, ◌+◌, ◌≤◌, ◌<◌}
+use mathlib.Core.List.{List}
+use Prim.Native.Nat.{ℕ, zero, suc, ◌+◌, ◌<◌}
 use native.Mathlib.Omega.{arith}
 use borrow.Author.Tests.{eqb-false, eq-eqb}
 use lib.ListN.{length, length-set, get_or, set, replicate}
 use lib.Seq.{get_or-set_same, get_or-set_other}
+use Rattle.std.proofs.Math.Bool.{cond}
+use Rattle.std.proofs.Math.Nat.{add-zero}
+use Rattle.std.proofs.lemmas.List.Sums.{sum_by-set, count_by-le-length}
 use Rattle.base.specs.Tests.{when◌then◌else◌, by_test, ◌=?◌}
 use Rattle.base.specs.Loops.{ascending_more, ascending_same}
 use Rattle.machine.specs.Terms.{sleeping, occurring, to_start}
@@ -19,19 +22,6 @@ use Rattle.starting.specs.Queues.{queue_of, queue_moved, reach_of, reach_started
 use Rattle.starting.specs.Reaching.{sleepers, Room}
 use Rattle.starting.specs.Reached.{Reached, media_by}
 use Rattle.starting.specs.declared.start.Start.{Start}
-
--- ---- how many sleep: no more than there are, and one less after one wakes
-
-sleepers_few : (states : List ℕ) → sleepers states ≤ length states
-unfolding sleepers when◌then◌else◌
-sleepers_few [] = omega arith
-sleepers_few (x ∷ xs) = by_test (x =? sleeping) (λ e. rw e (omega (arith, sleepers_few xs))) (λ e. rw e (omega (arith, sleepers_few xs)))
-
-sleepers_less : (states : List ℕ) (n : ℕ) → n < length states → get_or states n 0 ≡ sleeping → sleepers (set states n occurring) + 1 ≡ sleepers states
-unfolding sleepers when◌then◌else◌
-sleepers_less [] n h e = absurd (omega arith)
-sleepers_less (x ∷ xs) zero h e = rw e (omega arith)
-sleepers_less (x ∷ xs) (suc n) h e = omega (arith, sleepers_less xs n (omega arith) e)
 
 -- ---- start of a media: an awake one stays, and a sleeping one occurs; nothing else of states and values changes
 
@@ -77,8 +67,9 @@ module _ (media : List ℕ) (count n : ℕ) (h : count < length media) where
 
 -- a sleeping media is put in the queue of a start
 module _ (s : Start) (n : ℕ) (h : n < 64) (sleeps : get_or s.states n 0 ≡ sleeping) where
+  -- one less sleeps then
   less : sleepers (set s.states n occurring) + 1 ≡ sleepers s.states
-  less = sleepers_less s.states n (omega (arith, s.room.state_places)) sleeps
+  less = rw (sleeps, add-zero) at (sum_by-set (λ (state : ℕ). cond (state =? sleeping) 1 0) s.states n occurring 0 (omega (arith, s.room.state_places)))
 
   pub queue_room : s.reach.queue.count < 64
   queue_room = omega (arith, less, s.room.most)
@@ -98,8 +89,8 @@ module _ (s : Start) (n : ℕ) (h : n < 64) (sleeps : get_or s.states n 0 ≡ sl
     document = document;
     chosen = chosen;
     run = λ r x f a levels b.
-        let anchors = s.document.now.anchors in
-        let has = media_wakes s.document.now n x (rw a.states sleeps) in
+        let anchors = s.document.now.document.anchors in
+        let has = media_wakes s.document.now.document n x (rw a.states sleeps) in
         record {
           run = rw (document, reach)
               (ap (media_moved anchors to_start n) a.run
@@ -113,4 +104,4 @@ module _ (s : Start) (n : ℕ) (h : n < 64) (sleeps : get_or s.states n 0 ≡ sl
 -- ---- the queue before a start
 
 pub room_none : (states : List ℕ) → length states ≡ 64 → Room states (queue_of (replicate 64 0) 0)
-room_none states places = record { state_places = places; queue_places = refl; most = omega (arith, sleepers_few states); ids = λ i h. absurd (omega arith) }
+room_none states places = record { state_places = places; queue_places = refl; most = omega (arith, count_by-le-length (λ (state : ℕ). state =? sleeping) states); ids = λ i h. absurd (omega arith) }

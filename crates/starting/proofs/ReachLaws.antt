@@ -48,65 +48,68 @@ pub not_reached : (s : Start) (n : ℕ) → Reached s n (λ levels x. x) s
 not_reached s n = record { document = refl; chosen = refl; run = λ r x f a levels b. a }
 
 reached_then : {s₀ s s' : Start} {n : ℕ} {f g h : ℕ → Run → Run} → Reached s₀ n f s → Reached s n g s'
-    → ((levels : ℕ) (x : Run) → FoundChildren s₀.document.now.binds s₀.document.now.rules x.state.properties.values s₀.chosen → h levels x ≡ g levels (f levels x)) → Reached s₀ n h s'
+    → ((levels : ℕ) (x : Run) → FoundChildren s₀.document.now.document.binds s₀.document.now.document.rules x.state.properties.values s₀.chosen → h levels x ≡ g levels (f levels x)) → Reached s₀ n h s'
 reached_then before after same = record {
   document = after.document ∙ before.document;
   chosen = after.chosen ∙ before.chosen;
   run = λ r x c a levels b. rw (same levels x (rw a.values c)) (after.run r _ (rw (before.document, before.chosen) c) (before.run r x c a levels b) levels b);
 }
 
-from_start_lem : {s s' : Start} {n child : ℕ} {found : Option Found} → LaterChild n child → found ≡ found_at (type_of s.document.now.nodes child) (get_or s.states child 0)
-    → Reached s child (found_by found s.document.now child) s' → Reached s n (λ levels. started s.document.now levels child) s'
+from_start_lem : {s s' : Start} {n child : ℕ} {found : Option Found} → LaterChild n child → found ≡ found_at (type_of s.document.now.document.nodes child) (get_or s.states child 0)
+    → Reached s child (found_by found s.document.now.document child) s' → Reached s n (λ levels. started s.document.now.document levels child) s'
 from_start_lem {s} {n} {child} {found} later is reached = record {
   document = reached.document;
   chosen = reached.chosen;
   run = λ r x c a levels b.
       let above : levels ≡ suc (levels - 1) = omega (arith, later) in
-      let here : found ≡ found_at (type_of s.document.now.nodes child) (node_state x.state child) = is ∙ rw a.states in
-      rw (above, started_found s.document.now (levels - 1) child x, ← here) (reached.run r x c a (levels - 1) (omega (arith, later)));
+      let here : found ≡ found_at (type_of s.document.now.document.nodes child) (node_state x.state child) = is ∙ rw a.states in
+      rw (above, started_found s.document.now.document (levels - 1) child x, ← here) (reached.run r x c a (levels - 1) (omega (arith, later)));
 }
+
+later_port : {d : Document} → Sound d → (p : ℕ) → p < d.ports.count → LaterChild (port_at d.ports p).context (port_at d.ports p).child
+later_port sound p h = record { later = sound.port_later p h; below = omega (arith, sound.port_child p h, sound.nodes.few) }
 
 -- ---- a child that is asked by a port of context n, or is the choice of switch n: it is later, and if a media is found there, it sleeps
 
-abbrev Finds : ℕ → ℕ → ℕ → Option Found → Type 0
+abbrev pub Finds : ℕ → ℕ → ℕ → Option Found → Type 0
 Finds n child state found = LaterChild n child × (found ≡ Some Media → state ≡ sleeping)
 
 module _ {n child : ℕ} (type state : ℕ) {found : Option Found} (is : found ≡ found_at type state) where
-  finds : LaterChild n child → Finds n child state found
+  pub finds : LaterChild n child → Finds n child state found
   finds later = (later, λ m. media_sleeps type state (sym m ∙ is))
 
-  port_finds : (d : Document) → Sound d → (p : ℕ) → p < d.ports.count → n ≡ (port_at d.ports p).context → child ≡ (port_at d.ports p).child → Finds n child state found
-  port_finds d sound p h is_context is_child = finds (record { later = omega (arith, sound.port_later p h); below = omega (arith, sound.port_child p h, sound.nodes.few) })
+  pub port_finds : (d : Document) (p : ℕ) → LaterChild (port_at d.ports p).context (port_at d.ports p).child → n ≡ (port_at d.ports p).context → child ≡ (port_at d.ports p).child → Finds n child state found
+  port_finds d p later is_context is_child = finds (rw (is_context, is_child) later)
 
-  choice_finds : (chosen : List ℕ) → LaterChoices chosen → n < 64 → child ≡ get_or chosen n 0 → (child ≡ 0 → ⊥) → Finds n child state found
+  pub choice_finds : (chosen : List ℕ) → LaterChoices chosen → n < 64 → child ≡ get_or chosen n 0 → (child ≡ 0 → ⊥) → Finds n child state found
   choice_finds chosen later h is_child some = finds (rw is_child (later.choice n h (rw is_child at some)))
 
 -- ---- the ports of context n
 
 abbrev pub ports_by : Start → ℕ → ℕ → ℕ → Run → Run
-ports_by s n p levels x = ascending (port_started s.document.now (started s.document.now levels) n) p x
+ports_by s n p levels x = ascending (port_started s.document.now.document (started s.document.now.document levels) n) p x
 
 pub ports_none : (s : Start) (n : ℕ) → Reached s n (ports_by s n 0) s
 unfolding ascending
 ports_none s n = not_reached s n
 
 module _ {s₀ s : Start} {n : ℕ} (p : ℕ) (before : Reached s₀ n (ports_by s₀ n p) s) where
-  pub ports_done : p ≡ s₀.document.now.ports.count → Reached s₀ n (context_by s₀ n) s
+  pub ports_done : p ≡ s₀.document.now.document.ports.count → Reached s₀ n (context_by s₀ n) s
   unfolding context_started
   ports_done e = rw e at before
 
-  module _ {context : ℕ} (is_context : context ≡ (port_at s.document.now.ports p).context) where
+  module _ {context : ℕ} (is_context : context ≡ (port_at s.document.now.document.ports p).context) where
     pub port_idle : (context ≡ n → ⊥) → Reached s₀ n (ports_by s₀ n (p + 1)) s
     unfolding port_started when◌then◌else◌
     port_idle other = reached_then before (not_reached s n) (λ levels x c.
-        sym (ascending_more (port_started s₀.document.now (started s₀.document.now levels) n) p x refl (rw (← before.document, ← is_context, ne_eqb _ _ other))))
+        sym (ascending_more (port_started s₀.document.now.document (started s₀.document.now.document levels) n) p x refl (rw (← before.document, ← is_context, ne_eqb _ _ other))))
 
-    pub port_turn : {s' : Start} {child : ℕ} {found : Option Found} → context ≡ n → p < s₀.document.now.ports.count → child ≡ (port_at s.document.now.ports p).child
-        → found ≡ found_at (type_of s.document.now.nodes child) (get_or s.states child 0) → Reached s child (found_by found s.document.now child) s' → Reached s₀ n (ports_by s₀ n (p + 1)) s'
+    pub port_turn : {s' : Start} {child : ℕ} {found : Option Found} → context ≡ n → p < s₀.document.now.document.ports.count → child ≡ (port_at s.document.now.document.ports p).child
+        → found ≡ found_at (type_of s.document.now.document.nodes child) (get_or s.states child 0) → Reached s child (found_by found s.document.now.document child) s' → Reached s₀ n (ports_by s₀ n (p + 1)) s'
     unfolding port_started when◌then◌else◌
     port_turn own h is_child is reached =
-        reached_then before (from_start_lem (port_finds _ _ is s.document.now s.sound p (rw before.document h) (sym own ∙ is_context) is_child).0 is reached) (λ levels x c.
-        sym (ascending_more (port_started s₀.document.now (started s₀.document.now levels) n) p x refl (rw (← before.document, ← is_context, ← is_child, eq-eqb _ _ own))))
+        reached_then before (from_start_lem (port_finds _ _ is s.document.now.document p (later_port s.document.now.sound p (rw before.document h)) (sym own ∙ is_context) is_child).0 is reached) (λ levels x c.
+        sym (ascending_more (port_started s₀.document.now.document (started s₀.document.now.document levels) n) p x refl (rw (← before.document, ← is_context, ← is_child, eq-eqb _ _ own))))
 
 -- ---- the child of switch n: the choice is made, before the child starts
 
@@ -139,15 +142,15 @@ module _ {s₀ : Start} {n child : ℕ} (h : n < 64) (is_child : child ≡ get_o
     run = λ r x c a levels b. record { run = rw (chose.0, chose.3, ← is_child, a.run); states = rw (chose.2, a.states); values = a.values };
   }
 
-  pub choice_turn : {s s' : Start} (found : Option Found) → Reached s child (found_by found s.document.now child) s' → found ≡ found_at (type_of s.document.now.nodes child) (get_or s.states child 0)
+  pub choice_turn : {s s' : Start} (found : Option Found) → Reached s child (found_by found s.document.now.document child) s' → found ≡ found_at (type_of s.document.now.document.nodes child) (get_or s.states child 0)
       → (child ≡ 0 → ⊥) → Chose s₀ n s → Reached s₀ n (switch_by s₀ n) s'
   unfolding when◌then◌else◌
   choice_turn found reached is some chose = reached_then (choice_reached chose) (from_start_lem (choice_finds _ _ is s₀.chosen s₀.later h is_child some).0 is reached) (λ levels x c.
-      switch_started_lem s₀.document.now s₀.sound s₀.chosen h is_child (started s₀.document.now levels) x c ∙ rw (ne_eqb child 0 some, chose.0))
+      switch_started_lem s₀.document.now.document s₀.document.now.sound s₀.chosen h is_child (started s₀.document.now.document levels) x c ∙ rw (ne_eqb child 0 some, chose.0))
 
   pub choice_idle : {s : Start} → child ≡ 0 → Chose s₀ n s → Reached s₀ n (switch_by s₀ n) s
   unfolding when◌then◌else◌
-  choice_idle none chose = reached_then (choice_reached chose) (not_reached _ n) (λ levels x c. switch_started_lem s₀.document.now s₀.sound s₀.chosen h is_child (started s₀.document.now levels) x c ∙ rw none)
+  choice_idle none chose = reached_then (choice_reached chose) (not_reached _ n) (λ levels x c. switch_started_lem s₀.document.now.document s₀.document.now.sound s₀.chosen h is_child (started s₀.document.now.document levels) x c ∙ rw none)
 
 -- ---- the choices of a document's switches
 
@@ -181,7 +184,7 @@ module _ (d : Document) (states : List ℕ) (values : List ℤ) (choices : List 
     run = λ r e v c. by_found r e ∙ rw (s, ← c) (media_any_choices r.state.choices d.anchors to_start n r);
   }
 
-  pub below_reached : {s s' : Start} → Begun d states values choices s → Reached s n (found_by found s.document.now n) s' → MediaOfStart d states values choices n s'.reach
+  pub below_reached : {s s' : Start} → Begun d states values choices s → Reached s n (found_by found s.document.now.document n) s' → MediaOfStart d states values choices n s'.reach
   unfolding reach_started queue_moved ascending
   below_reached {s} {s'} begun reached = record {
     places = record { few = omega (arith, s'.room.most); ids = s'.room.ids };

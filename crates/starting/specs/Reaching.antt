@@ -1,6 +1,7 @@
 -- A start first puts the media that it reaches in a queue, and then they start in the queue's order. Until then composites and
 -- values stay as they are, and a media in the queue counts as awake.
-use Rattle.std.specs.Prelude.{ℕ, ◌+◌, ◌≤◌, ◌<◌, List, [], ◌∷◌, ◌≡◌, length, get_or, Option, Some, None}
+use Rattle.std.specs.Prelude.{ℕ, ◌+◌, ◌≤◌, ◌<◌, List, ◌≡◌, length, get_or, Option, Some, None}
+use Rattle.std.specs.List.{count_by}
 use Rattle.base.specs.Tests.{when◌then◌else◌, ◌=?◌}
 use Rattle.machine.specs.Terms.{context, media, sleeping}
 use Rattle.machine.specs.Events.{awake}
@@ -26,9 +27,8 @@ pub record LaterChoices (chosen : List ℕ) : Type 0 where
 -- ---- the queue
 
 -- how many of these states are sleeping
-unfoldable pub sleepers : List ℕ → ℕ
-sleepers [] = 0
-sleepers (state ∷ states) = (when state =? sleeping then 1 else 0) + sleepers states
+abbrev pub sleepers : List ℕ → ℕ
+sleepers states = count_by (λ (state : ℕ). state =? sleeping) states
 
 -- the queue has room for all that sleep
 pub record Room (states : List ℕ) (q : Queue) : Type 0 where

@@ -10,7 +10,8 @@ ghost use Rattle.starting.specs.Queues.{queue_of, MediaOfStart};
 use machine::sound::SoundDocument;
 use start::{Found, Start, found_at};
 
-// The first `count` entries of `media`, in this order: memory is fixed, and there are no more than 64 nodes.
+// The first `count` entries of `media`, in this order: memory is fixed, there are no more than 64 nodes, and the crates use `std` alone, which
+// has no vector of fixed memory.
 #[derive(Clone, Copy)]
 pub struct Queue {
     pub media: [u8; 64],
@@ -59,8 +60,7 @@ pub fn media_of_start(
     requires { n < d.now.document.nodes.count }
     ensures { MediaOfStart d.now.document states.now values.now choices.now n result }
 {
-    let document = &d.document;
-    match found_at(document.nodes.types[n], states[n]) {
+    match found_at(d.document.nodes.types[n], states[n]) {
         Some(Found::Media) => {
             let mut queue = Queue::new();
             queue.push(n);
@@ -70,12 +70,12 @@ pub fn media_of_start(
             }
         }
         Some(Found::Context) => {
-            let mut start = Start::new(document, states, values, choices);
+            let mut start = Start::new(d, states, values, choices);
             start.start_context(n);
             start.reach
         }
         Some(Found::Switch) => {
-            let mut start = Start::new(document, states, values, choices);
+            let mut start = Start::new(d, states, values, choices);
             start.start_switch(n);
             start.reach
         }

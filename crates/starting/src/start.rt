@@ -1,11 +1,11 @@
 // A start on its way: what it goes by, and what it has reached so far.
 ghost use Rattle.std.specs.Prelude.{◌≡◌};
-ghost use Rattle.machine.specs.Sound.{Sound};
 ghost use Rattle.starting.specs.Reaching.{found_at, LaterChoices, Room};
 
 use super::{Queue, Reach};
 use choosing::found_children;
-use machine::{Document, terms};
+use machine::sound::SoundDocument;
+use machine::terms;
 
 // What a start finds at a node that sleeps.
 #[derive(Clone, Copy)]
@@ -34,11 +34,10 @@ pub fn found_at(node_type: u8, state: u8) -> Option<Found>
 // It is lent to each composite, so that those which nest in each other take little stack.
 #[derive(Drop)]
 pub struct Start<'a> {
-    pub document: &'a Document,
+    pub document: &'a SoundDocument,
     pub chosen: [u8; 64],
     pub states: [u8; 64],
     pub reach: Reach,
-    pub ghost sound: { Sound document.now },
     pub ghost later: { LaterChoices chosen },
     pub ghost room: { Room states reach.queue },
 }
@@ -46,23 +45,21 @@ pub struct Start<'a> {
 impl<'a> Start<'a> {
     ghost use Rattle.std.specs.Prelude.{◌≡◌, ◌<◌, get_or};
     ghost use Rattle.machine.specs.Terms.{sleeping};
-    ghost use Rattle.machine.specs.Sound.{Sound};
     ghost use Rattle.choosing.specs.Choosing.{FoundChildren};
     ghost use Rattle.starting.specs.Reached.{Reached, media_by, context_by, switch_by, Begun};
 
-    // Nothing is reached yet.
+    // Nothing is reached yet. Lent the columns alone, as `media_of_start` is.
     pub fn new(
-        document: &'a Document,
+        document: &'a SoundDocument,
         states: &[u8; 64],
         values: &[i32; 32],
         choices: &[u8; 64],
     ) -> Start<'a>
-        requires { Sound document.now }
-        ensures { Begun document.now states.now values.now choices.now result }
+        ensures { Begun document.now.document states.now values.now choices.now result }
     {
         Start {
             document,
-            chosen: found_children(&document.binds, &document.rules, values),
+            chosen: found_children(&document.document.binds, &document.document.rules, values),
             states: *states,
             reach: Reach {
                 queue: Queue::new(),
@@ -86,10 +83,13 @@ impl<'a> Start<'a> {
     pub fn start_context(&mut self, n: usize)
         ensures { Reached self.old n (context_by self.old n) self.new }
     {
-        for p in 0..self.document.ports.count {
-            if usize::from(self.document.ports.contexts[p]) == n {
-                let child = usize::from(self.document.ports.children[p]);
-                match found_at(self.document.nodes.types[child], self.states[child]) {
+        for p in 0..self.document.document.ports.count {
+            if usize::from(self.document.document.ports.contexts[p]) == n {
+                let child = usize::from(self.document.document.ports.children[p]);
+                match found_at(
+                    self.document.document.nodes.types[child],
+                    self.states[child],
+                ) {
                     Some(Found::Media) => self.enqueue(child),
                     Some(Found::Context) => self.start_context(child),
                     Some(Found::Switch) => self.start_switch(child),
@@ -99,8 +99,8 @@ impl<'a> Start<'a> {
         }
     }
 
-    // A sleeping switch chooses and starts the child that it finds. (The match stands in both: a third method in the cycle would need a
-    // measure of its own.)
+    // A sleeping switch chooses and starts the child that it finds. (The match stands in both: the measure is 01's, 64 minus the id, which
+    // falls from a context or switch to its child, and a third method would be called, or would call, with the same id.)
     #[cycle(start_context_start_switch)]
     #[tactic(auto, using(crate::proofs::Finding::media_sleeps))]
     pub fn start_switch(&mut self, n: usize)
@@ -110,7 +110,10 @@ impl<'a> Start<'a> {
         self.reach.choices[n] = self.chosen[n];
         let child = usize::from(self.chosen[n]);
         if child != 0 {
-            match found_at(self.document.nodes.types[child], self.states[child]) {
+            match found_at(
+                self.document.document.nodes.types[child],
+                self.states[child],
+            ) {
                 Some(Found::Media) => self.enqueue(child),
                 Some(Found::Context) => self.start_context(child),
                 Some(Found::Switch) => self.start_switch(child),

@@ -1,4 +1,5 @@
-// The states obey the rules of composites, anchors and clocks.
+// The states obey the rules of composites, anchors and clocks. Lent a document and a state, and no whole session: who has the two apart would
+// have to copy both into one.
 #![tactic(auto)]
 
 ghost use Rattle.std.specs.Prelude.{◌≡◌, ℕ, ◌<◌, ◌≤◌, true, false, replicate};

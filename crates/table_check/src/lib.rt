@@ -78,35 +78,22 @@ fn link_at(links: &Links, i: usize) -> LinkRecord
     }
 }
 
-// ---- the entries of each table, whose columns are its own, laid out for C. A loop for each, and no `all` over the range: without an early end
-// each turn is the same.
+// ---- the entries of each table: each has columns of its own, which its `*_at` names. Those of binds and ports by a loop, which marks.
 
-#[tactic(auto, using(crate::proofs::Full::full_nodes, crate::proofs::Passed::passed), unfolding(base::specs::Loops::every, machine::specs::Broken::node_obeys))]
+#[tactic(auto, using(crate::proofs::Full::full_nodes))]
 fn nodes_obey(d: &Document) -> bool
     ensures { result ≡ every (node_obeys d.now) d.now.nodes.count }
 {
-    if 64 < d.nodes.count {
-        return false;
-    }
-    let mut obey = true;
-    for i in 0..d.nodes.count {
-        obey &= check_node(&d.nodes, i, node_at(&d.nodes, i)).is_ok();
-    }
-    obey
+    d.nodes.count <= 64
+        && (0..d.nodes.count).all(|i| check_node(&d.nodes, i, node_at(&d.nodes, i)).is_ok())
 }
 
-#[tactic(auto, using(crate::proofs::Full::full_anchors, crate::proofs::Passed::passed), unfolding(base::specs::Loops::every, machine::specs::Broken::anchor_obeys))]
+#[tactic(auto, using(crate::proofs::Full::full_anchors))]
 fn anchors_obey(d: &Document) -> bool
     ensures { result ≡ every (anchor_obeys d.now) d.now.anchors.count }
 {
-    if 128 < d.anchors.count {
-        return false;
-    }
-    let mut obey = true;
-    for i in 0..d.anchors.count {
-        obey &= check_anchor(&d.nodes, i, anchor_at(&d.anchors, i)).is_ok();
-    }
-    obey
+    d.anchors.count <= 128
+        && (0..d.anchors.count).all(|i| check_anchor(&d.nodes, i, anchor_at(&d.anchors, i)).is_ok())
 }
 
 fn rule_unused_zero(r: RuleRecord) -> bool
@@ -119,21 +106,22 @@ fn rule_unused_zero(r: RuleRecord) -> bool
     }
 }
 
-#[tactic(auto, using(crate::proofs::Full::full_rules, crate::proofs::Passed::passed), unfolding(base::specs::Loops::every, machine::specs::Broken::rule_obeys))]
+#[tactic(auto, using(crate::proofs::Passed::passed), unfolding(machine::specs::Broken::rule_obeys))]
+fn rule_obeys(d: &Document, i: usize) -> bool
+    requires { i < 32 }
+    ensures { result ≡ rule_obeys d.now i }
+{
+    let rule = rule_at(&d.rules, i);
+    ((rule.kind == terms::SIMPLE_RULE) | (rule.kind == terms::COMPOSITE_RULE))
+        & check_rule(d.properties, i, rule).is_ok()
+        & rule_unused_zero(rule)
+}
+
+#[tactic(auto, using(crate::proofs::Full::full_rules))]
 fn rules_obey(d: &Document) -> bool
     ensures { result ≡ every (rule_obeys d.now) d.now.rules.count }
 {
-    if 32 < d.rules.count {
-        return false;
-    }
-    let mut obey = true;
-    for i in 0..d.rules.count {
-        let rule = rule_at(&d.rules, i);
-        obey &= ((rule.kind == terms::SIMPLE_RULE) | (rule.kind == terms::COMPOSITE_RULE))
-            & check_rule(d.properties, i, rule).is_ok()
-            & rule_unused_zero(rule);
-    }
-    obey
+    d.rules.count <= 32 && (0..d.rules.count).all(|i| rule_obeys(d, i))
 }
 
 // A switch is marked where it has a default.
@@ -177,34 +165,28 @@ fn ports_obey(d: &Document) -> bool
 }
 
 // The actions of one link.
-#[tactic(auto, using(crate::proofs::Full::full_actions, crate::proofs::Passed::passed), unfolding(base::specs::Loops::every, machine::specs::Broken::action_obeys))]
+#[tactic(auto, using(crate::proofs::Full::full_actions))]
 fn actions_obey(d: &Document, link: usize) -> bool
     requires { link < 64 }
     ensures { result ≡ every (action_obeys d.now link) (action_count d.now.links link) }
 {
     let count = usize::from(d.links.action_counts[link]);
-    if 8 < count {
-        return false;
-    }
-    let mut obey = true;
-    for j in 0..count {
-        obey &= check_action(d, j, action_at(&d.actions, link, j)).is_ok();
-    }
-    obey
+    count <= 8 && (0..count).all(|j| check_action(d, j, action_at(&d.actions, link, j)).is_ok())
 }
 
-#[tactic(auto, using(crate::proofs::Full::full_links, crate::proofs::Passed::passed, crate::proofs::Passed::link_obeys_lem), unfolding(base::specs::Loops::every))]
+#[tactic(auto, using(crate::proofs::Passed::passed, crate::proofs::Passed::link_obeys_lem))]
+fn link_obeys(d: &Document, i: usize) -> bool
+    requires { i < 64 }
+    ensures { result ≡ link_obeys d.now i }
+{
+    check_link(d, i, link_at(&d.links, i)).is_ok() & actions_obey(d, i)
+}
+
+#[tactic(auto, using(crate::proofs::Full::full_links))]
 fn links_obey(d: &Document) -> bool
     ensures { result ≡ every (link_obeys d.now) d.now.links.count }
 {
-    if 64 < d.links.count {
-        return false;
-    }
-    let mut obey = true;
-    for i in 0..d.links.count {
-        obey &= check_link(d, i, link_at(&d.links, i)).is_ok() & actions_obey(d, i);
-    }
-    obey
+    d.links.count <= 64 && (0..d.links.count).all(|i| link_obeys(d, i))
 }
 
 #[tactic(auto, using(crate::proofs::Full::properties_within), unfolding(machine::specs::Broken::tables_obey))]

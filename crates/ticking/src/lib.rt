@@ -31,7 +31,7 @@ fn is_next(time: u16, clock: u16) -> bool
 }
 
 // For each media one past the last of its anchors whose time is the media's next clock, 0 where there is none; the times are the
-// begins or the ends of the anchors, one column of the two.
+// begins or the ends of the anchors, one column of the two. Lent the clocks alone, so that it is said of every state that has them.
 fn past_last_due(d: &SoundDocument, times: &[u16; 128], clocks: &[u16; 64]) -> [usize; 64]
     ensures { LastFound (due_next d.now.document.anchors.media times.now clocks.now) d.now.document.anchors.count result }
 {

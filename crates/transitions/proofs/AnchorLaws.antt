@@ -2,25 +2,40 @@
 use mathlib.Core.Path.{◌≡◌, refl, sym, ap, ◌∙◌}
 use mathlib.Core.Bool.{Bool, true, false, ◌&&◌, and-false}
 use mathlib.Core.List.{List}
-use Prim.Native.Nat.{ℕ}
+use Prim.Native.Nat.{ℕ, zero, suc}
+use native.Mathlib.Omega.{arith}
+use Rattle.std.specs.Prelude.{Option, Some, None}
+use borrow.Author.Tests.{ne_eqb}
 use lib.ListN.{get_or}
 use Rattle.base.specs.Tests.{when◌then◌else◌, ◌=?◌}
 use Rattle.base.specs.Loops.{past_last, past_last_most, past_last_none, ascending_within}
-use Rattle.machine.specs.Terms.{no_transition, sleeping, occurring, to_stop}
+use Rattle.machine.specs.Terms.{no_transition, of_anchor, sleeping, occurring, to_stop}
 use Rattle.machine.specs.Tables.{anchor_at}
-use Rattle.machine.specs.Events.{Run, with_state, anchor_state, awake, begins_at, ends_at, transition, anchor_to, anchor_changed, anchor_moved, anchors_moved, media_moved}
+use Rattle.machine.specs.Events.{Run, with_state, with_anchor, anchor_state, anchor_count, counted, awake, begins_at, ends_at, transition, anchor_to, anchor_changed, anchor_moved, anchors_moved, media_moved}
+use Rattle.machine.specs.Log.{line, logged}
 use Rattle.machine.specs.Tick.{with_clock, anchors_passed, passed}
+use Rattle.changes.specs.Transitions.{transition_or_none}
 use Rattle.transitions.specs.Lent.{anchors_of}
 use Rattle.machine.specs.declared.Anchors.{Anchors}
 use Rattle.machine.specs.declared.Document.{Document}
 use Rattle.transitions.specs.declared.media.Due.{Due}
 use Rattle.transitions.specs.Due.{due_at, due_of}
 
+-- an anchor's change by its transition, if it has one
+unfoldable pub changed_by : ℕ → ℕ → Option ℕ → Run → Run
+changed_by a new None r = r
+changed_by a new (Some change) r = with_state (with_anchor a new (counted change (anchor_count r.state a)) r.state) (logged (line of_anchor a change) r.log) r
+
+pub changed_as : (a new change : ℕ) (r : Run) → changed_by a new (transition_or_none change) r ≡ anchor_changed a new change r
+unfolding changed_by transition_or_none anchor_changed when◌then◌else◌
+changed_as a new zero r = refl
+changed_as a new (suc change) r = rw (ne_eqb (suc change) 0 (λ e. omega arith))
+
 -- an anchor that does not move has no transition
 changed_if : (b aborting : Bool) (a new : ℕ) (r : Run)
-    → (when b then anchor_to aborting a new r else r) ≡ anchor_changed a new (when b then transition aborting (anchor_state r.state a) new else no_transition) r
-unfolding when◌then◌else◌ anchor_to anchor_changed
-changed_if true aborting a new r = refl
+    → (when b then anchor_to aborting a new r else r) ≡ changed_by a new (transition_or_none (when b then transition aborting (anchor_state r.state a) new else no_transition)) r
+unfolding when◌then◌else◌ anchor_to changed_by transition_or_none
+changed_if true aborting a new r = sym (changed_as a new _ r)
 changed_if false aborting a new r = refl
 
 -- a test that fails fails with another beside it
@@ -29,9 +44,9 @@ stays_with true b c e = rw e (and-false b)
 stays_with false b c e = refl
 
 -- one anchor, by its transition
-pub anchor_moved_lem : (anchors : Anchors) (moves : ℕ → ℕ → ℕ → Bool) (aborting : Bool) (n new a : ℕ) (r : Run) {z : Run} (change : ℕ)
-    → change ≡ (when (anchor_at anchors a).media =? n && moves (anchor_at anchors a).begin (anchor_at anchors a).end (anchor_state r.state a) then transition aborting (anchor_state r.state a) new else no_transition)
-    → z ≡ anchor_changed a new change r → z ≡ anchor_moved anchors moves aborting n new a r
+pub anchor_moved_lem : (anchors : Anchors) (moves : ℕ → ℕ → ℕ → Bool) (aborting : Bool) (n new a : ℕ) (r : Run) {z : Run} (change : Option ℕ)
+    → change ≡ transition_or_none (when (anchor_at anchors a).media =? n && moves (anchor_at anchors a).begin (anchor_at anchors a).end (anchor_state r.state a) then transition aborting (anchor_state r.state a) new else no_transition)
+    → z ≡ changed_by a new change r → z ≡ anchor_moved anchors moves aborting n new a r
 unfolding anchor_moved
 anchor_moved_lem anchors moves aborting n new a r change e p = p ∙ rw e (sym (changed_if _ aborting a new r))
 

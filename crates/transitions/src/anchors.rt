@@ -13,7 +13,7 @@ use records::fields::anchor_at;
 
 // Of the first anchors, up to `end`, those of the media that move go to the state, in id order. (An id below 128 fits a byte; `try_from`
 // would give a Result, to be unwrapped by the same fact.)
-#[tactic(auto, using(base::specs::Tests::when_true, base::specs::Tests::when_false, base::specs::Loops::ascending_none, base::specs::Loops::ascending_more, base::specs::Loops::ascending_done, crate::proofs::AnchorLaws::anchor_moved_lem), unfolding(machine::specs::Events::anchors_moved, machine::specs::Events::anchor_changed))]
+#[tactic(auto, using(base::specs::Loops::ascending_none, base::specs::Loops::ascending_more, base::specs::Loops::ascending_done, crate::proofs::AnchorLaws::anchor_moved_lem), unfolding(machine::specs::Events::anchors_moved, crate::proofs::AnchorLaws::changed_by))]
 pub fn move_anchors(
     anchors: &Anchors,
     end: usize,
@@ -32,8 +32,7 @@ pub fn move_anchors(
 {
     for a in 0..end {
         let anchor = anchor_at(anchors, a);
-        let transition = anchor_transition(moving, change, anchor, events.states[a]);
-        if transition != terms::NO_TRANSITION {
+        if let Some(transition) = anchor_transition(moving, change, anchor, events.states[a]) {
             events.states[a] = change.state;
             events.counts[a] = count_after(transition, events.counts[a]);
             written.emit(log, terms::OF_ANCHOR, a as u8, transition);

@@ -15,7 +15,7 @@ use changes::{Change, Moving, following, line_first};
 use machine::{AnchorEvents, Anchors, NodeEvents, terms};
 use records::tables::next_state;
 
-// An action on media n, with its anchors. (The action is a byte that was asked before, as `next_state` says.)
+// An action on media n, with its anchors. (The action is a byte, as `next_state` says.)
 #[tactic(auto, using(base::specs::Tests::when_true, base::specs::Tests::when_false), unfolding(machine::specs::Events::media_moved, machine::specs::Events::media_to))]
 pub fn move_media(
     anchors: &Anchors,

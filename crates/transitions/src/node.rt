@@ -10,7 +10,7 @@ use changes::{Change, clock_after, count_after, transition_of};
 use machine::{NodeEvents, terms};
 
 // The node goes to the state. (An id below 64 fits a byte; `try_from` would give a Result, to be unwrapped by the same fact.)
-#[tactic(auto, using(base::specs::Tests::when_true, base::specs::Tests::when_false), unfolding(machine::specs::Events::node_to, machine::specs::Events::node_changed))]
+#[tactic(auto, using(base::specs::Tests::when_true, base::specs::Tests::when_false), unfolding(machine::specs::Events::node_to, machine::specs::Events::node_changed, changes::specs::Transitions::transition_or_none))]
 pub fn node_to(nodes: &mut NodeEvents, log: &mut [u8], written: &mut Written, change: Change)
     requires { change.node < 64 }
     ensures { (anchors : AnchorEvents) (rest : Rest)
@@ -19,8 +19,7 @@ pub fn node_to(nodes: &mut NodeEvents, log: &mut [u8], written: &mut Written, ch
         (run_with nodes.old anchors rest (log_of written.old log.old)) }
 {
     let n = change.node;
-    let transition = transition_of(change.aborting, nodes.states[n], change.state);
-    if transition != terms::NO_TRANSITION {
+    if let Some(transition) = transition_of(change.aborting, nodes.states[n], change.state) {
         nodes.states[n] = change.state;
         nodes.clocks[n] = clock_after(transition, nodes.clocks[n]);
         nodes.counts[n] = count_after(transition, nodes.counts[n]);

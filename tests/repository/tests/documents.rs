@@ -43,14 +43,14 @@ fn every_name_names_something() {
 fn a_name_of_nothing_is_found() {
     let sources = Sources::read();
     for name in [
-        "`starting::reaching::found_children`", // it is in another module
+        "`starting::start::found_children`", // it is in another module
         "`events::acting::media_of_start`",     // used there and declared elsewhere
         "`events::settling_twice`",
         "`starting::found_children`",
-        "`CallAnswer::NoSuchCase`",
-        "`machine::CallAnswer::NoSuchCase`",
-        "`player::CallAnswer::Accepted`", // a type of another crate
-        "`CallAnswer::Loaded`",           // a case of another type
+        "`Call::NoSuchCase`",
+        "`machine::Call::NoSuchCase`",
+        "`player::Call::Tick`", // a type of another crate
+        "`Call::LogFull`",      // a case of another type
         "`FirstSession.loaded-good`",
         "`FirstSession.loaded_good`",
         "`log.newer`", // a reference has no such field

@@ -5,17 +5,14 @@ use Rattle.printed_run.proofs.Parts.{reached_on}
 use Rattle.printed_run.proofs.run_script.Goals as goal
 
 pub loop-init : goal.loop-init
-loop-init g c =
-    (omega arith, omega (arith, c.min-held.ensures), record { script = _; printed = []; goes_on = none_run }, omega arith)
+loop-init g c = (record { script = _; printed = []; goes_on = none_run }, omega arith)
 
 pub loop-preserved : goal.loop-preserved
 loop-preserved g c =
     let held = c.in-Some.ensures.held in (
-      omega arith,
-      omega (arith, held.inside),
-      rw held.begins (reached_on c.loop.invariant.2 c.run_part-ran.ensures (λ e. cc (c.in-Some.ensures.ended e)) held.more),
-      omega (arith, length-take c.loop.held c.loop.part, c.run_part-ran.ensures.used, c.run_part-ran.ensures.next),
+      rw held.begins (reached_on c.loop.invariant.0 c.run_part-ran.ensures (λ e. cc (c.in-Some.ensures.ended e)) held.more),
+      omega (arith, length-take c.loop.script.held c.loop.script.part, c.run_part-ran.ensures.used, c.run_part-ran.ensures.next),
     )
 
-pub returns-in-None : goal.returns-in-None
-returns-in-None g c = λ h. (_, reached_on c.loop.invariant.2 c.run_part-ran.ensures h [])
+pub returns-in_default : goal.returns-in_default
+returns-in_default g c = λ h. (_, reached_on c.loop.invariant.0 c.run_part-ran.ensures h [])

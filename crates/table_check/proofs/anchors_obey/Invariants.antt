@@ -1,8 +1,0 @@
--- What stays true in the loop of `table_check::anchors_obey`.
-use Rattle.std.proofs.Common.{◌≡◌}
-use Rattle.base.specs.Loops.{every}
-use Rattle.machine.specs.Broken.{anchor_obeys}
-use Rattle.table_check.proofs.anchors_obey.Given as goal
-
-abbrev pub invariant-loop-i : goal.invariant-loop-i
-invariant-loop-i l = l.obey ≡ every (anchor_obeys l.d) l.i

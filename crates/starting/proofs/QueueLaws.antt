@@ -4,20 +4,20 @@ use mathlib.Core.Bool.{Bool}
 use mathlib.Core.List.{List}
 use Prim.Native.Nat.{ℕ, zero, suc, ◌+◌, ◌<◌}
 use native.Mathlib.Omega.{arith}
-use borrow.Author.Tests.{eqb-false, eq-eqb}
-use lib.ListN.{length, length-set, get_or, set, replicate}
+use borrow.Author.Tests.{eq-eqb}
+use lib.ListN.{length, get_or, set, replicate}
 use lib.Seq.{get_or-set_same, get_or-set_other}
 use Rattle.std.proofs.Math.Bool.{cond}
 use Rattle.std.proofs.Math.Nat.{add-zero}
 use Rattle.std.proofs.lemmas.List.Sums.{sum_by-set, count_by-le-length}
-use Rattle.base.specs.Tests.{when◌then◌else◌, by_test, ◌=?◌}
+use Rattle.base.specs.Tests.{when◌then◌else◌, ◌=?◌}
 use Rattle.base.specs.Loops.{ascending_more, ascending_same}
 use Rattle.machine.specs.Terms.{sleeping, occurring, to_start}
 use Rattle.machine.specs.Events.{Run, choices_set, node_state, transition, next_state, line_first, node_to, node_changed, anchor_to, anchor_changed, anchors_moved, media_to, media_moved}
 use Rattle.machine.specs.declared.Anchors.{Anchors}
 use Rattle.machine.specs.declared.Document.{Document}
 use Rattle.machine.proofs.Keep.{chosen, pass_keeps}
-use Rattle.machine.proofs.Effects.{get_d_set, media_any_choices}
+use Rattle.machine.proofs.Effects.{media_any_choices}
 use Rattle.starting.specs.Queues.{queue_of, queue_moved, reach_of, reach_started}
 use Rattle.starting.specs.Reaching.{sleepers, Room}
 use Rattle.starting.specs.Reached.{Reached, media_by}
@@ -61,10 +61,6 @@ module _ (media : List ℕ) (count n : ℕ) (h : count < length media) where
       (e ∙ ascending_same (turn media) (turn (set media count n)) count r (λ i _ l. rw (get_or-set_other media count i n 0 (λ u. omega arith))))
       (rw (get_or-set_same media count n 0 h))
 
-  pub ids_more : n < 64 → ((i : ℕ) → i < count → get_or media i 0 < 64) → (i : ℕ) → i < count + 1 → get_or (set media count n) i 0 < 64
-  unfolding when◌then◌else◌
-  ids_more k ids i l = rw (get_d_set media count i n 0 h) (by_test (count =? i) (λ q. rw q k) (λ q. rw q (ids i (omega (arith, eqb-false count i q)))))
-
 -- a sleeping media is put in the queue of a start
 module _ (s : Start) (n : ℕ) (h : n < 64) (sleeps : get_or s.states n 0 ≡ sleeping) where
   -- one less sleeps then
@@ -73,14 +69,6 @@ module _ (s : Start) (n : ℕ) (h : n < 64) (sleeps : get_or s.states n 0 ≡ sl
 
   pub queue_room : s.reach.queue.count < 64
   queue_room = omega (arith, less, s.room.most)
-
-  pub room_more : Room (set s.states n occurring) (queue_of (set s.reach.queue.media s.reach.queue.count n) (s.reach.queue.count + 1))
-  room_more = record {
-    state_places = length-set s.states n occurring ∙ s.room.state_places;
-    queue_places = length-set s.reach.queue.media s.reach.queue.count n ∙ s.room.queue_places;
-    most = omega (arith, less, s.room.most);
-    ids = ids_more s.reach.queue.media s.reach.queue.count n (omega (arith, queue_room, s.room.queue_places)) h s.room.ids;
-  }
 
   pub media_reached : {s' : Start} → s'.document ≡ s.document → s'.chosen ≡ s.chosen → s'.states ≡ set s.states n occurring
       → s'.reach ≡ reach_of (set s.reach.queue.media s.reach.queue.count n) (s.reach.queue.count + 1) s.reach.choices → Reached s n (media_by s n) s'

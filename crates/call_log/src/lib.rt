@@ -27,6 +27,7 @@ impl Written {
     }
 
     // The refusal stops the call, unless one was met before.
+    #[tactic(auto, using(base::specs::Tests::when_tells))]
     pub fn meet(&mut self, refusal: Refusal)
         ensures { (bytes : List ℕ) → log_of self.new bytes ≡ met (number_of refusal) (log_of self.old bytes) }
     {

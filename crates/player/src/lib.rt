@@ -8,7 +8,6 @@ ghost use Rattle.machine.specs.Broken.{broken};
 ghost use Rattle.machine.specs.Load.{load};
 ghost use Rattle.machine.specs.Operations.{command, call, read};
 ghost use Rattle.machine.specs.Counts.{check_counts, give_count};
-ghost use Rattle.machine.specs.Sessions.{session_of};
 ghost use Rattle.document.specs.Loading.{load_result};
 ghost use Rattle.engine.specs.Promises.{call_result};
 
@@ -17,16 +16,15 @@ use machine::{
     ActionRecord, Call, Called, CountAnswer, CountsAnswer, Loaded, Reading, Refusal, Session,
 };
 
-// The session, if it is not broken. A function and no `TryFrom`, which could not stand here: both types are of `machine`, and the check that
-// it takes is of a crate above.
-fn unbroken(s: &Session) -> Result<UnbrokenSession, Refusal>
-    ensures given { IfOk result (λ session. (broken s.now ≡ false) × (session_of session ≡ s.now)) }
+// Whether the session may be handed on. It answers no unbroken session, which a Result would hold a second time, with zeros in it.
+fn check_unbroken(s: &Session) -> Result<(), Refusal>
+    ensures unbroken { IfOk result (λ _. broken s.now ≡ false) }
     ensures refused { IfErr result (λ refusal. (broken s.now ≡ true) × (refusal ≡ Refusal.BrokenSession)) }
 {
     if session_check::is_broken(s) {
         return Err(Refusal::BrokenSession);
     }
-    Ok(UnbrokenSession::new(*s))
+    Ok(())
 }
 
 pub fn load(document: &[u8]) -> Loaded
@@ -39,18 +37,17 @@ pub fn load(document: &[u8]) -> Loaded
 pub fn call(s: Session, c: Call, log: &mut [u8]) -> Called
     ensures { call_result result log.new ≡ call s c (length log.old) }
 {
-    match unbroken(&s) {
-        Ok(mut session) => {
-            let answer = engine::call(&mut session, c, log);
-            Called {
-                answer,
-                session: Session::from(session),
-            }
-        }
-        Err(refusal) => Called {
+    if let Err(refusal) = check_unbroken(&s) {
+        return Called {
             answer: engine::refuse(refusal, log),
             session: s,
-        },
+        };
+    }
+    let mut session = UnbrokenSession::new(s);
+    let answer = engine::call(&mut session, c, log);
+    Called {
+        answer,
+        session: Session::from(session),
     }
 }
 
@@ -87,19 +84,22 @@ pub fn tick(s: Session, log: &mut [u8]) -> Called
 pub fn read(s: Session, class: u8, id: u8) -> Result<Reading, Refusal>
     ensures { read_answer result ≡ read s class id }
 {
-    questions::read(&unbroken(&s)?, class, id)
+    check_unbroken(&s)?;
+    questions::read(&UnbrokenSession::new(s), class, id)
 }
 
 #[tactic(auto, using(base::specs::Tests::when_tells), unfolding(machine::specs::Counts::check_counts))]
 pub fn check_counts(s: Session, media: u8, property: u8) -> CountsAnswer
     ensures { counts_answer result ≡ check_counts s media property }
 {
-    questions::check_counts(&unbroken(&s)?, media, property)
+    check_unbroken(&s)?;
+    questions::check_counts(&UnbrokenSession::new(s), media, property)
 }
 
 #[tactic(auto, using(base::specs::Tests::when_tells), unfolding(machine::specs::Counts::give_count))]
 pub fn count_of(s: Session, anchor: u8, property: u8) -> CountAnswer
     ensures { count_answer result ≡ give_count s anchor property }
 {
-    questions::count_of(&unbroken(&s)?, anchor, property)
+    check_unbroken(&s)?;
+    questions::count_of(&UnbrokenSession::new(s), anchor, property)
 }

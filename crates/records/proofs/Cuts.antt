@@ -21,9 +21,9 @@ module _ (document : List ℕ) (at : ℕ) where
   cut_short h size e m l =
       rw (le-ltb _ _ h, length-drop, ← e, lt-ltb (length document - (at + 1)) size (omega arith))
 
-  pub cut_whole : kind ≤ greatest_kind → (size : ℕ) → size ≡ body_length kind → at + 1 + size ≤ length document
-      → (body : List ℕ) → body ≡ slice_range document (at + 1) (at + 1 + size) → good (record_of kind body) ≡ cut_from document at
+  pub cut_whole : kind ≤ greatest_kind → (size : ℕ) → size ≡ body_length kind → (body : List ℕ) (end : ℕ) → body ≡ slice_range document (at + 1) end
+      → end ≡ at + 1 + size → end ≤ length document → good (record_of kind body) ≡ cut_from document at
   unfolding cut_at when◌then◌else◌
-  cut_whole h size e l body f =
-      let n : at + 1 + size - (at + 1) ≡ size = omega arith in
+  cut_whole h size e body end f q l =
+      let n : end - (at + 1) ≡ size = omega arith in
       rw (le-ltb _ _ h, length-drop, ← e, le-ltb (length document - (at + 1)) size (omega arith), f, n)

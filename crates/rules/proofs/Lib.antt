@@ -2,3 +2,4 @@
 mod Marks
 mod ByKind
 pub mod Facts
+pub mod ByteMarks

@@ -3,12 +3,15 @@
 // every state that has them. No struct lends both, since it would be made anew for each guard and each start.
 #![tactic(auto)]
 
+mod byte_marks;
+
 ghost use Rattle.std.specs.Prelude.{◌≡◌, ◌<◌, pos, get_or, length};
 ghost use Rattle.machine.specs.Terms.{no_id};
 ghost use Rattle.machine.specs.Tables.{rule_at};
 ghost use Rattle.machine.specs.Deciding.{compared, combined, rule_holds, guard_holds};
 ghost use Rattle.machine.specs.Sound.{SoundRules};
 
+pub use byte_marks::{decide, simple_marks};
 use machine::{Rules, terms};
 
 // Comparators: 0 equal, 1 not equal, 2 less, 3 greater, 4 less or equal, 5 greater or equal. Bytes, since a session may be written down with any.

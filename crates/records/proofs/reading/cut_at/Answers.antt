@@ -17,4 +17,4 @@ pub returns : goal.returns
 returns c =
     let e : c.body_length.result ≡ body_length (kind c.args.document.now c.args.at) = rw c.from.ensures at c.body_length.ensures.0 in
     let found = c.in-Some.ensures.lookup.0 in
-    rw c.record_of.ensures (cut_whole c.args.document.now c.args.at c.if-kind-gt-GREATEST_KIND.false _ e found.1 _ found.2)
+    rw c.record_of.ensures (cut_whole c.args.document.now c.args.at c.if-kind-gt-GREATEST_KIND.false _ e _ _ found.2 (omega arith) found.1)

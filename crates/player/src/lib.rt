@@ -16,7 +16,7 @@ use machine::{
     ActionRecord, Call, Called, CountAnswer, CountsAnswer, Loaded, Reading, Refusal, Session,
 };
 
-// Whether the session may be handed on. It answers no unbroken session, which a Result would hold a second time, with zeros in it.
+// Refuses a broken session. It answers no `UnbrokenSession`: a Result of one would be filled with zeros and copied in every call.
 fn check_unbroken(s: &Session) -> Result<(), Refusal>
     ensures unbroken { IfOk result (λ _. broken s.now ≡ false) }
     ensures refused { IfErr result (λ refusal. (broken s.now ≡ true) × (refusal ≡ Refusal.BrokenSession)) }

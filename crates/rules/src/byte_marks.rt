@@ -1,5 +1,5 @@
-// What is known of rules as a byte for each: 0 not decided, 1 does not hold, 2 holds. Any other byte stands as a mark too: its rule is not
-// decided, and is taken for one that does not hold. Only the bytes are read and noted here; `KnownRules` decides.
+// What is known of rules as a byte for each: 0 not decided, 1 does not hold, 2 holds. Any other byte is a mark too, and stays: its rule counts
+// as decided, and as one that does not hold. Only the bytes are read and noted here; `KnownRules` decides.
 ghost use Rattle.std.specs.Prelude.{◌≡◌, ◌<◌, length, map};
 ghost use Rattle.machine.specs.Sound.{SoundRules};
 ghost use Rattle.rules.specs.ByteMarks.{mark_of, known_of, noted, NotedMarks, Known, Earlier, Decided};
